@@ -175,8 +175,10 @@ def told_of_start(data):
     behind = data[place:]
     if not behind:
         return []
-    lines = [f"navtex: {len(behind)} bytes at line {line_of(data, place)} of the log are no kept "
-             "entry, and are cut"]
+    line = line_of(data, place)
+    lines = [f"navtex: {len(behind)} bytes at line {line} of the log are no kept entry, and are cut"
+             if len(behind) > 1
+             else f"navtex: 1 byte at line {line} of the log is no kept entry, and is cut"]
     for at in (it.start() for it in re.finditer(rb"\[", behind)):
         if entry_at(behind, at)[0]:
             head = behind[at : behind.index(b"\n", at)].decode()

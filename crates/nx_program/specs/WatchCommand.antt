@@ -1,7 +1,8 @@
 -- What `navtex watch FILE MOMENT` does, with `--combine` and without it: the log is opened,
 -- watched, and handed back (this profile).
 use Rattle.std.specs.Prelude.{◌≡◌, ◌++◌, ℕ, List, [], Option, Some, None, Result, Ok, Err}
-use Rattle.std.specs.Prelude.{codes, decimal}
+use Rattle.std.specs.Prelude.{codes, decimal, length}
+use Rattle.std.specs.Io.KnownBytes.{Consumes}
 use Rattle.clap.specs.Words.{Text}
 use Rattle.nx_fec.specs.Transfers.{CountedDevice, Devices}
 use Rattle.nx_kept.specs.Disk.{OnlyReads}
@@ -17,7 +18,7 @@ use Rattle.nx_disk.specs.declared.file.FileFault.TheVariants as file
 use Rattle.nx_watch.specs.Watch.{AnswersWatchBy, FailsWithin, HasCause, RefusesLog}
 use Rattle.nx_watch.specs.Watch.{StandsForEntries, WatchDevices, longest_entry}
 use Rattle.nx_watch.specs.LineRun.{TellsOfLines}
-use Rattle.nx_watch.specs.Stamp.{Stamp}
+use Rattle.nx_watch.specs.Stamp.{AreTheReads, Stamp}
 use Rattle.nx_watch.specs.declared.watch_fault.WatchFault.{WatchFault}
 use Rattle.nx_watch.specs.declared.watch_fault.WatchFault.TheVariants as watch
 use Rattle.nx_watch.specs.declared.watch_report.WatchReport.{WatchReport}
@@ -133,8 +134,8 @@ module _ {R W F D E : Type 0} (d : Devices R W) (b : Beside F D W E) where
   -- said of what was read, kept, written and told, by how the sendings of a message are taken;
   -- where it was damaged, at which line. Where it was no kept log, it was refused, and nothing was
   -- done but to read it. The disk is blamed only where it failed, and that was at a place within
-  -- the file or at its end. Whatever the file was, it was told on standard error what is cut, and
-  -- of some lines, and nothing else.
+  -- the file or at its end. Whatever the file was, the stamps are the reads of the input; and it
+  -- was told on standard error what is cut, and of some lines, and nothing else.
   pub record WatchesFile (sendings : Sendings) (moment : ℕ) (disk disk_after : D)
       (answer : Result WatchReport WatchFault)
       : Type 0 where
@@ -151,6 +152,8 @@ module _ {R W F D E : Type 0} (d : Devices R W) (b : Beside F D W E) where
         (b.tells.left_since start) disk disk_after
         × (d.reader_after ≡ d.reader) × (d.writer_after ≡ d.writer) × (b.faults_after ≡ b.faults)
         × (b.stamps ≡ [])
+    pub stamps : (bytes : List ℕ) × Consumes (d.remaining d.reader.inner)
+        (d.remaining d.reader_after.inner) bytes × AreTheReads b.stamps (length bytes)
     pub refused : (start : List ℕ) → b.tells.explains start disk_after
         → (IsKeptLog IsWholeEntry longest_entry (b.tells.seen start disk) → ⊥)
         → RefusesLog (b.tells.seen start disk) answer

@@ -1,5 +1,5 @@
 -- What is told of the bytes that a start cuts of its log (this profile).
-use Rattle.std.specs.Prelude.{◌≡◌, ◌⊎◌, ◌==◌, ℕ, List, [], ◌∷◌, ◌++◌, codes, decimal, length, position, take}
+use Rattle.std.specs.Prelude.{◌≡◌, ◌⊎◌, ◌==◌, ℕ, Bool, true, false, List, [], ◌∷◌, ◌++◌, codes, decimal, length, position, take}
 use Rattle.std.specs.Prelude.{unwrap_or}
 use Rattle.std.specs.List.{flat_map}
 use Rattle.nx_code.specs.Reading.{newline}
@@ -28,11 +28,18 @@ AreHeads (byte ∷ bytes) heads =
 abbrev pub head_told : List ℕ → List ℕ
 head_told head = codes "navtex: cut: " ++ (head ++ codes "\n")
 
--- what is told of so many bytes that are cut, which begin on this line of the log
-abbrev pub count_told : ℕ → ℕ → List ℕ
-count_told count line =
+-- what is told of so many bytes that are cut, which begin on this line of the log; whether it is
+-- one byte
+abbrev pub count_told_of : Bool → ℕ → ℕ → List ℕ
+count_told_of true count line =
+    codes "navtex: " ++ (decimal count ++ (codes " byte at line " ++ (decimal line
+    ++ codes " of the log is no kept entry, and is cut\n")))
+count_told_of false count line =
     codes "navtex: " ++ (decimal count ++ (codes " bytes at line " ++ (decimal line
     ++ codes " of the log are no kept entry, and are cut\n")))
+
+abbrev pub count_told : ℕ → ℕ → List ℕ
+count_told count line = count_told_of (count == 1) count line
 
 -- what is told of bytes that are cut and begin on this line, with these heads among them; where
 -- there are no bytes, nothing

@@ -1,10 +1,11 @@
 -- What stood at each read of the input of a watch (this profile).
-use Rattle.std.specs.Prelude.{◌≡◌, ℕ, List, []}
+use Rattle.std.specs.Prelude.{◌≡◌, ℕ, List, [], length, Option}
+use Rattle.std.specs.Io.KnownBytes.{Consumes}
 use Rattle.nx_fec.specs.Transfers.{CountedDevice}
 use Rattle.nx_fec.specs.declared.devices.pieces.Piece.{Piece}
 use Rattle.nx_fec.specs.declared.devices.pieces.Piece.TheVariants.{End, Failed, Bytes}
 use Rattle.nx_watch.specs.declared.stamped.StampedReader.{StampedReader}
-use Rattle.nx_watch.specs.Stamp.{Stamp}
+use Rattle.nx_watch.specs.Stamp.{AreTheReads, Stamp}
 
 -- how many bytes a read gave
 abbrev pub size_of_piece : Piece → ℕ
@@ -24,6 +25,13 @@ module _ {R D W N : Type 0} where
   -- what stood at each of its reads, the last one first
   abbrev pub stamps_of : StampedReader R D W N → List (Stamp D W N)
   stamps_of reader = reader.stamps.items
+
+  -- From old to new it read some bytes, and its stamps are the reads of them.
+  abbrev pub HasStampedReads : (R → Option (List ℕ)) → StampedReader R D W N
+      → StampedReader R D W N → Type 0
+  HasStampedReads remaining old new =
+      (bytes : List ℕ) × Consumes (remaining (counted_of old).inner)
+      (remaining (counted_of new).inner) bytes × AreTheReads (stamps_of new) (length bytes)
 
   -- it made no read yet, and no call failed
   pub record IsFresh (reader : StampedReader R D W N) : Type 0 where

@@ -28,7 +28,7 @@ use Rattle.nx_watch.specs.CutTold.{AreHeads, cut_told}
 use Rattle.nx_watch.specs.Start.{remembered_at}
 use Rattle.nx_watch.specs.LineRun.{HasTold, StopsBehind}
 use Rattle.nx_watch.specs.LinesTold.{IsToldAtEnd, IsToldByRead}
-use Rattle.nx_watch.specs.Stamp.{Stamp}
+use Rattle.nx_watch.specs.Stamp.{AreTheReads, LastGaveNone, Stamp}
 use Rattle.nx_watch.specs.declared.lines.line_effects.StartMoments.{StartMoments}
 use Rattle.nx_watch.specs.declared.watch_report.WatchReport.{WatchReport}
 use Rattle.nx_watch.specs.declared.watch_fault.WatchFault.{WatchFault}
@@ -179,6 +179,14 @@ FailsWrites (back line last given) failures = failures ≤ 1
 FailsWrites unread failures = failures ≡ 0
 FailsWrites unwritten failures = failures ≡ 1
 
+-- The last read of a watch that stopped so and read so many bytes: where the input had ended, that
+-- read found it, and at the limit of bytes no further one was made; a failed read is the last one.
+abbrev pub EndsAtRead : {D W N : Type 0} → Stop → ℕ → List (Stamp D W N) → Type 0
+EndsAtRead at_end total stamps = LastGaveNone stamps ⊎ (total ≡ most_bytes)
+EndsAtRead (back line last given) total stamps = ⊤
+EndsAtRead unread total stamps = LastGaveNone stamps
+EndsAtRead unwritten total stamps = ⊤
+
 module _ {D R W E : Type 0} (d : WatchDevices D R W E) where
   -- each file that a crash may leave when all is over has this
   abbrev pub LeavesAtLast : (List ℕ → Type 0) → Type 0
@@ -295,9 +303,10 @@ module _ {D R W E : Type 0} (d : WatchDevices D R W E) where
   -- A watch that opened this file, which stands for these entries, and started so at this moment
   -- read these lines until it stopped so. They print these copies. At each moment a crash leaves
   -- what it could leave before, or a file that stands for the entries and a beginning of the
-  -- copies. What the start cut was told, and what is told of the lines. At each read of the input
-  -- all of that stood already, of the lines that were whole by then. A read failed exactly where it
-  -- stopped at a failed read; a write failed only where it stopped at that, or closed.
+  -- copies. What the start cut was told, and what is told of the lines. The stamps are the reads of
+  -- the input. At each of them all of that stood already, of the lines that were whole by then. A
+  -- read failed exactly where it stopped at a failed read; a write failed only where it stopped at
+  -- that, or closed.
   pub record HasWatchedOverBy (printing : Printing) (file : List ℕ) (now : ℕ) (starts : Starts)
       (entries : List MarkedCopy) (stop : Stop)
       (lines : List (Option Line)) (copies : List MarkedCopy)
@@ -310,6 +319,8 @@ module _ {D R W E : Type 0} (d : WatchDevices D R W E) where
         stop bytes lines
     pub printed : PrintsUntilBy printing stop starts
         (given_by (acting_lines (moments_at now starts) lines)) copies
+    pub stamps : AreTheReads d.stamps (length bytes)
+    pub last_read : EndsAtRead stop (length bytes) d.stamps
     pub before_each_read :
         All (StoodOverBy printing file now starts entries bytes copies) d.stamps
     pub any_moment : LeavesAtAnyMoment (λ file. (count : ℕ) × (count ≤ length copies)

@@ -9,7 +9,7 @@ ghost use Rattle.nx_copies.specs.copies.Shares.{MarkedCopy};
 ghost use Rattle.nx_combine.specs.CombinedPrinting.{combined};
 ghost use Rattle.nx_watch.specs.Watch.{AnswersWatchBy, FailsWithin, HasCause, RefusesLog, StandsForEntries, longest_entry};
 ghost use Rattle.nx_watch.specs.LineRun.{TellsOfLines};
-ghost use Rattle.nx_watch.specs.Stamps.{IsFresh, counted_of, stamps_of};
+ghost use Rattle.nx_watch.specs.Stamps.{HasStampedReads, IsFresh, counted_of, stamps_of};
 ghost use Rattle.nx_watch.specs.declared.watch_fault.WatchFault.TheVariants.{Damaged as DamagedAt};
 
 use crate::left_on::watch_with;
@@ -79,6 +79,9 @@ pub fn watch_combined<D: DiskFile + Drop, R: Read, W: Write, F: Write>(
     ensures within { (start : List ℕ) → D.explains start result.1
         → FailsWithin D.DiskFile start device result.1 }
     ensures explained { (start : List ℕ) → D.explains start result.1 → D.explains start device }
+
+    // Each read of the input has a stamp, and nothing else has one.
+    ensures stamps { HasStampedReads R.remaining reader.old reader.new }
 
     // Whatever the file is, it was told on `notices` what is cut, and of some lines; nothing else.
     ensures told { TellsOfLines (F.contents notices.old.inner) (F.contents notices.new.inner)

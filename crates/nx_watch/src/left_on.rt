@@ -8,7 +8,7 @@ ghost use Rattle.nx_log.specs.Entries.{IsWholeEntry};
 ghost use Rattle.nx_copies.specs.copies.Shares.{MarkedCopy};
 ghost use Rattle.nx_watch.specs.Watch.{AnswersWatch, AnswersWatchBy, FailsWithin, HasCause, PrintsLoggable, RefusesLog, StandsForEntries, longest_entry};
 ghost use Rattle.nx_watch.specs.LineRun.{TellsOfLines};
-ghost use Rattle.nx_watch.specs.Stamps.{IsFresh, counted_of, stamps_of};
+ghost use Rattle.nx_watch.specs.Stamps.{HasStampedReads, IsFresh, counted_of, stamps_of};
 ghost use Rattle.nx_watch.specs.private.Answering.{fault_answered};
 ghost use Rattle.nx_watch.specs.declared.watch_fault.WatchFault.TheVariants.{Damaged as DamagedAt};
 
@@ -99,6 +99,9 @@ pub fn watch<D: DiskFile + Drop, R: Read, W: Write, F: Write>(
         → FailsWithin D.DiskFile start device result.1 }
     ensures explained { (start : List ℕ) → D.explains start result.1 → D.explains start device }
 
+    // Each read of the input has a stamp, and nothing else has one.
+    ensures stamps { HasStampedReads R.remaining reader.old reader.new }
+
     // Whatever the file is, it was told on `notices` what is cut, and of some lines; nothing else.
     ensures told { TellsOfLines (F.contents notices.old.inner) (F.contents notices.new.inner)
         notices.new.failures }
@@ -158,6 +161,9 @@ pub fn watch_with<C: ChannelReceiver, D: DiskFile + Drop, R: Read, W: Write, F: 
     ensures within { (start : List ℕ) → D.explains start result.1
         → FailsWithin D.DiskFile start device result.1 }
     ensures explained { (start : List ℕ) → D.explains start result.1 → D.explains start device }
+
+    // Each read of the input has a stamp, and nothing else has one.
+    ensures stamps { HasStampedReads R.remaining reader.old reader.new }
 
     // Whatever the file is, it was told on `notices` what is cut, and of some lines; nothing else.
     ensures told { TellsOfLines (F.contents notices.old.inner) (F.contents notices.new.inner)

@@ -12,7 +12,8 @@ ghost use Rattle.nx_watch.specs.LinesTold.{IsReason};
 ghost use Rattle.nx_watch.specs.private.Effects.{acting_and_set, is_acting, IsEffect, IsKept, KeepsMoments, SameCounts, set_by};
 ghost use Rattle.nx_watch.specs.private.Running.{EndsInput, EndsRun, HasToldLines, HasToldSo, IsBeside, IsRunning, IsToldByEnd, TellsFirst, ToldBefore, ToldBeside, beside};
 ghost use Rattle.nx_receiver.specs.Listener.{starts_by};
-ghost use Rattle.nx_watch.specs.Stamps.{IsFresh, counted_of, stamps_of};
+ghost use Rattle.nx_watch.specs.Stamp.{AreTheReads, LastGaveNone};
+ghost use Rattle.nx_watch.specs.Stamps.{HasStampedReads, IsFresh, bytes_given, counted_of, stamps_of};
 ghost use Rattle.nx_watch.specs.private.LoggingListener.{KeepsLines, LoggingOver, LoggingTo, TakesLines, logging_to};
 ghost use Rattle.nx_watch.specs.private.AnyReading.{GoesOn, HasGiven, SaysLine, latest_of, reach, waiting};
 ghost use Rattle.nx_watch.specs.declared.lines.any_lines.AnyLine.TheVariants.{Known};
@@ -69,7 +70,7 @@ pub(crate) fn watch_lines<R: Read, D: DiskFile + Drop, C: ChannelReceiver, W: Wr
         → (bytes : List ℕ)
         × Consumes (R.remaining (counted_of reader.old).inner)
         (R.remaining (counted_of reader.new).inner) bytes
-        × (length bytes ≤ limit)
+        × ((length bytes ≤ limit) × (length bytes ≡ bytes_given reader.new))
         × AnswersRun (record {
           stands = StandsStamped
               (telling C.kind D.DiskFile W.contents F.contents old) first bytes
@@ -81,6 +82,11 @@ pub(crate) fn watch_lines<R: Read, D: DiskFile + Drop, C: ChannelReceiver, W: Wr
           tells = λ lines. HasToldSo old (F.contents notices.new.inner) notices.new.failures
               (IsToldByEnd first bytes lines logging.new.keeper.has_failed);
         }) result bytes }
+    ensures consumed { HasStampedReads R.remaining reader.old reader.new }
+    ensures stamps { AreTheReads (stamps_of reader.new) (bytes_given reader.new) }
+    ensures ended { OnOk result (LastGaveNone (stamps_of reader.new)
+        ⊎ (bytes_given reader.new ≡ limit)) }
+    ensures failed { IsErrOf result ReadFailed → LastGaveNone (stamps_of reader.new) }
     ensures unread { IsErrOf result ReadFailed ↔ ((counted_of reader.new).failures ≡ 1) }
     ensures once { (counted_of reader.new).failures ≤ 1 }
     ensures unwritten { IsErrOf result WriteEnd ↔ (writer.new.failures ≡ 1) }
@@ -134,7 +140,7 @@ impl LineRun {
             → (bytes : List ℕ)
             × Consumes (R.remaining (counted_of reader.old).inner)
             (R.remaining (counted_of reader.new).inner) bytes
-            × (length bytes ≤ self.old.lines.room)
+            × ((length bytes ≤ self.old.lines.room) × (length bytes ≡ bytes_given reader.new))
             × (told : ToldBeside) × IsBeside old logging.new.keeper.has_failed told
             × MatchResult result
             (λ _. (IsAtEnd (R.remaining (counted_of reader.new).inner)
@@ -150,6 +156,11 @@ impl LineRun {
             (logging_to logging.new writer.new) first self.new.effects told
             (F.contents notices.new.inner) notices.new.failures end bytes)
             (stamps_of reader.new)) }
+        ensures consumed { HasStampedReads R.remaining reader.old reader.new }
+        ensures stamps { AreTheReads (stamps_of reader.new) (bytes_given reader.new) }
+        ensures ended { OnOk result (LastGaveNone (stamps_of reader.new)
+            ⊎ (bytes_given reader.new ≡ self.old.lines.room)) }
+        ensures failed { IsErrOf result ReadFailed → LastGaveNone (stamps_of reader.new) }
         ensures few { OnOk result (self.new.effects.lines < 2 ^ 63) }
         ensures fewer { OnOk result (self.new.effects.without_effect ≤ self.new.effects.lines) }
         ensures unread { IsErrOf result ReadFailed ↔ ((counted_of reader.new).failures ≡ 1) }

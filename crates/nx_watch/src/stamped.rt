@@ -12,7 +12,8 @@ use std::io::Read;
 mod stamps;
 
 /// A counted reader that notes, for clauses alone, what stood at each of its reads: how many bytes
-/// had come before it, and the disk file, the output and the notices. Nothing else makes a stamp.
+/// had come before it, the disk file, the output and the notices, and how many bytes it gave.
+/// Nothing else makes a stamp, and nothing else of it reads.
 #[derive(Drop)]
 pub struct StampedReader<R, D, W, N> {
     reader: Counting<R>,
@@ -49,7 +50,9 @@ impl<R, D, W, N> StampedReader<R, D, W, N> {
 }
 
 impl<R: Read, D, W, N> StampedReader<R, D, W, N> {
-    /// Reads the next piece, of at most `most` bytes, and notes what stood as it was asked for.
+    /// Reads the next piece, of at most `most` bytes, and notes what stood as it was asked for, and
+    /// how many bytes it gave. No call on the reader may have failed before (`none`). `most` is at
+    /// least one (`some`), and at most what one read gives, 65,536 (`few`).
     pub fn next_piece(
         &mut self,
         disk: &D,
@@ -68,12 +71,13 @@ impl<R: Read, D, W, N> StampedReader<R, D, W, N> {
         ensures given { bytes_given self.new
             ≡ count_of (bytes_given self.old + size_of_piece result) }
         ensures stamped { stamps_of self.new
-            ≡ stamp (bytes_given self.old) disk.now writer.now notices.now
+            ≡ stamp (bytes_given self.old) (size_of_piece result) disk.now writer.now notices.now
             ∷ stamps_of self.old }
     {
-        self.stamps = self.stamps.and(&self.given, disk, writer, notices);
         let piece = buffer.read(&mut self.reader, most);
-        self.given = self.given.saturating_add(size_of(&piece));
+        let gave = size_of(&piece);
+        self.stamps = self.stamps.and(&self.given, &gave, disk, writer, notices);
+        self.given = self.given.saturating_add(gave);
         piece
     }
 }

@@ -187,7 +187,7 @@ fn kept_appended(rt: HostRuntime) {
 // A gate that a crash tore as it was made.
 #[test]
 fn kept_gate(rt: HostRuntime) {
-    let told = "navtex: 1 bytes at line 1 of the log are no kept entry, and are cut\n";
+    let told = "navtex: 1 byte at line 1 of the log is no kept entry, and is cut\n";
     expect_kept(
         &rt,
         rt.alloc(),

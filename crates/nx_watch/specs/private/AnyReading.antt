@@ -2,7 +2,7 @@
 use Rattle.std.specs.Prelude.{◌≡◌, ◌⊎◌, ℕ, ◌+◌, ◌<◌, ◌≤◌, Bool, true, false, List, [], ◌∷◌, ◌++◌, Option, IsSomeAnd, drop}
 use Rattle.std.specs.Prelude.{length, take, option_to_list, map, Some, None, ⊤}
 use Rattle.std.specs.Io.KnownBytes.{Consumes, IsAtEnd, Keeps}
-use Rattle.nx_fec.specs.Transfers.{count_of}
+use Rattle.nx_fec.specs.Transfers.{count_of, max_piece}
 use Rattle.nx_fec.specs.air_files.AirFile.{IsLine, Line}
 use Rattle.nx_fec.specs.air_files.Scanner.{kind_of}
 use Rattle.nx_watch.specs.LinesTold.{IsReason}
@@ -74,16 +74,17 @@ pub record LooksOn (old new : AnyLines) (given : AnyLine) : Type 0 where
   pub reason : (bytes : List ℕ) (lines : List (Option Line)) → IsScanning old.scanner bytes lines
       → SaysReason given (bytes ++ take count old.piece) lines
 
--- a read was made, and this stood then
-abbrev pub HasStamped : {R D W N : Type 0} → StampedReader R D W N → StampedReader R D W N → D → W
-    → N → Type 0
-HasStamped old new disk writer notices =
-    stamps_of new ≡ stamp (bytes_given old) disk writer notices ∷ stamps_of old
+-- a read was made that gave so many bytes, and this stood then
+abbrev pub HasStamped : {R D W N : Type 0} → ℕ → StampedReader R D W N → StampedReader R D W N → D
+    → W → N → Type 0
+HasStamped gave old new disk writer notices =
+    stamps_of new ≡ stamp (bytes_given old) gave disk writer notices ∷ stamps_of old
 
 -- a read brought these bytes
 pub record HasReadBytes {R D W N : Type 0} (remaining : R → Option (List ℕ))
     (old new : StampedReader R D W N) (before after : AnyLines) : Type 0 where
   pub some : 0 < length after.piece
+  pub few : length after.piece ≤ max_piece
   pub consumed : Consumes (remaining (counted_of old).inner) (remaining (counted_of new).inner)
       after.piece
   pub room : after.room + length after.piece ≡ before.room
@@ -95,6 +96,7 @@ pub record HasFailed {R D W N : Type 0} (remaining : R → Option (List ℕ))
     (old new : StampedReader R D W N) : Type 0 where
   pub keeps : Keeps (remaining (counted_of old).inner) (remaining (counted_of new).inner)
   pub one : (counted_of new).failures ≡ 1
+  pub given : bytes_given new ≡ count_of (bytes_given old)
 
 -- or since the input had ended
 pub record HasEnded {R D W N : Type 0} (remaining : R → Option (List ℕ))
@@ -102,14 +104,16 @@ pub record HasEnded {R D W N : Type 0} (remaining : R → Option (List ℕ))
   pub keeps : Keeps (remaining (counted_of old).inner) (remaining (counted_of new).inner)
   pub at_end : IsAtEnd (remaining (counted_of new).inner)
   pub well : (counted_of new).failures ≡ 0
+  pub given : bytes_given new ≡ count_of (bytes_given old)
 
 -- what came of it, where more was asked for; at the limit no read is made
 abbrev pub HasReadOn : {R D W N : Type 0} → (R → Option (List ℕ)) → StampedReader R D W N
     → StampedReader R D W N → D → W → N → AnyLines → AnyLines → More → Type 0
 HasReadOn remaining old new disk writer notices before after Bytes =
-    HasStamped old new disk writer notices × HasReadBytes remaining old new before after
+    HasStamped (length after.piece) old new disk writer notices
+    × HasReadBytes remaining old new before after
 HasReadOn remaining old new disk writer notices before after End =
     ((before.room ≡ 0) × (new ≡ old))
-    ⊎ (HasStamped old new disk writer notices × HasEnded remaining old new)
+    ⊎ (HasStamped 0 old new disk writer notices × HasEnded remaining old new)
 HasReadOn remaining old new disk writer notices before after Failed =
-    HasStamped old new disk writer notices × HasFailed remaining old new
+    HasStamped 0 old new disk writer notices × HasFailed remaining old new

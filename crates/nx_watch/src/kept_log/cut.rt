@@ -3,7 +3,7 @@
 ghost use Rattle.std.specs.Prelude.{◌≡◌, ◌==◌, ℕ, List, position};
 ghost use Rattle.std.specs.List.{flat_map};
 ghost use Rattle.nx_code.specs.Reading.{newline};
-ghost use Rattle.nx_watch.specs.CutTold.{AreHeads, cut_told, first_line, head_told};
+ghost use Rattle.nx_watch.specs.CutTold.{AreHeads, count_told, cut_told, first_line, head_told};
 ghost use Rattle.nx_watch.specs.private.Cutting.{IsHeadAt, TellsMore};
 
 use crate::lines::telling::{tell, write_more};
@@ -20,14 +20,32 @@ pub(crate) fn tell_of_cut<F: Write>(line: u64, bytes: &[u8], notices: &mut Count
     if bytes.is_empty() {
         return;
     }
-    tell(b"navtex: ", bytes.len() as u64, b" bytes at line ", notices);
-    tell(
-        b"",
-        line,
-        b" of the log are no kept entry, and are cut\n",
-        notices,
-    );
+    tell_count(bytes.len() as u64, line, notices);
     tell_heads(bytes, notices);
+}
+
+/// Tells that so many bytes are cut, which begin on this line of the log.
+fn tell_count<F: Write>(count: u64, line: u64, notices: &mut Counting<F>)
+    ensures { TellsMore F.contents notices.old notices.new (count_told count line) }
+{
+    let is_one = count == 1;
+    if is_one {
+        tell(b"navtex: ", count, b" byte at line ", notices);
+        tell(
+            b"",
+            line,
+            b" of the log is no kept entry, and is cut\n",
+            notices,
+        );
+    } else {
+        tell(b"navtex: ", count, b" bytes at line ", notices);
+        tell(
+            b"",
+            line,
+            b" of the log are no kept entry, and are cut\n",
+            notices,
+        );
+    }
 }
 
 /// Tells the head of each whole entry among the bytes.

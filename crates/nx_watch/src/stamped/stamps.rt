@@ -26,9 +26,16 @@ impl<D, W, N> Stamps<D, W, N> {
     }
 
     /// These, and one more.
-    pub(super) fn and(&self, _read: &u64, _disk: &D, _writer: &W, _notices: &N) -> Stamps<D, W, N>
+    pub(super) fn and(
+        &self,
+        _read: &u64,
+        _gave: &u64,
+        _disk: &D,
+        _writer: &W,
+        _notices: &N,
+    ) -> Stamps<D, W, N>
         ensures { result.items
-            ≡ stamp _read.now _disk.now _writer.now _notices.now ∷ self.now.items }
+            ≡ stamp _read.now _gave.now _disk.now _writer.now _notices.now ∷ self.now.items }
     {
         Stamps { of: PhantomData }
     }

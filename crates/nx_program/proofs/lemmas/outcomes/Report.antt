@@ -18,7 +18,7 @@ use Rattle.nx_watch.specs.declared.watch_fault.WatchFault.TheVariants as watch
 use Rattle.nx_program.specs.declared.watch_command.WatchFailure.{WatchFailure}
 use Rattle.nx_program.specs.declared.watch_command.WatchFailure.TheVariants.{Ended, Unopened}
 use Rattle.nx_watch.specs.Acting.{count_without, first_without}
-use Rattle.nx_watch.specs.CutTold.{TellsOfSomeCut, cut_told, head_told}
+use Rattle.nx_watch.specs.CutTold.{TellsOfSomeCut, count_told_of, cut_told, head_told}
 use Rattle.nx_watch.specs.LineRun.{HasTold, TellsOfLines}
 use Rattle.nx_watch.specs.LinesTold.{IsFirstTold, IsToldAtEnd, IsToldByRead, number_told, put_told}
 use Rattle.nx_watch.specs.LinesTold.{reason_words}
@@ -214,12 +214,20 @@ behind-cut : (cut text : List ℕ) → TellsOfSomeCut cut → IsFaultLine text �
 behind-cut cut text (line, bytes, heads, are, is) end =
     subst (λ (l : List ℕ). IsFaultLine (l ++ text)) (sym is) (so bytes)
   where
-    so : (bytes : List ℕ) → IsFaultLine (cut_told line bytes heads ++ text)
-    so [] = end
-    so (byte ∷ bytes) =
-        behind-another ((decimal (length (byte ∷ bytes)) ++ (codes " bytes at line "
+    of : (count : ℕ) (one : Bool)
+        → IsFaultLine ((count_told_of one count line ++ flat_map head_told heads) ++ text)
+    of count true =
+        behind-another ((decimal count ++ (codes " byte at line "
+        ++ (decimal line ++ codes " of the log is no kept entry, and is cut\n")))
+        ++ flat_map head_told heads) text end
+    of count false =
+        behind-another ((decimal count ++ (codes " bytes at line "
         ++ (decimal line ++ codes " of the log are no kept entry, and are cut\n")))
         ++ flat_map head_told heads) text end
+
+    so : (bytes : List ℕ) → IsFaultLine (cut_told line bytes heads ++ text)
+    so [] = end
+    so (byte ∷ bytes) = of (length (byte ∷ bytes)) (length (byte ∷ bytes) == 1)
 
 -- a text behind what was told is one text with it
 module _ {E : Type 0} (contents : E → Option (List ℕ)) (told : List ℕ)

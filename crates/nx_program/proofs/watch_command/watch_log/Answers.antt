@@ -31,6 +31,7 @@ returns-in-Alone g c =
                     only.3,
                     ap stamps_of only.1 ∙ c.requires.reader.none_made,
                   );
+              stamps = c.watch.ensures.stamps;
               refused = c.watch.ensures.refused;
               cause = c.watch.ensures.cause;
               within = c.watch.ensures.within;
@@ -67,6 +68,7 @@ returns-in-Together g c =
                     only.3,
                     ap stamps_of only.1 ∙ c.requires.reader.none_made,
                   );
+              stamps = c.watch_combined.ensures.stamps;
               refused = c.watch_combined.ensures.refused;
               cause = c.watch_combined.ensures.cause;
               within = c.watch_combined.ensures.within;

@@ -1,4 +1,5 @@
 use Rattle.std.proofs.Common.{◌≡◌, false, ◌≤◌, ◌∙◌, [], ℕ, List, Option, Result, Err, ap, append-nil, arith, inl, refl, subst, sym}
+use Rattle.std.proofs.KnownBytes.{Consumes-nil}
 use Rattle.std.specs.Prelude.{unwrap_or}
 use Rattle.std.specs.List.{AllZip}
 use Rattle.nx_kept.specs.Log.{Keeps}
@@ -13,7 +14,9 @@ use Rattle.nx_copies.specs.copies.Shares.{Starts, starts_from}
 use Rattle.nx_watch.specs.CutTold.{TellsOfSomeCut}
 use Rattle.nx_watch.specs.LineRun.{HasTold, TellsOfLines}
 use Rattle.nx_watch.specs.Watch.{AnswersOverBy, HasCause, RefusesLog, starts_at}
-use Rattle.nx_watch.specs.Stamps.{counted_of, stamps_of}
+use Rattle.nx_watch.specs.Stamp.{AreTheReads}
+use Rattle.nx_watch.specs.Stamps.{HasStampedReads, IsFresh, counted_of, stamps_of}
+use Rattle.nx_watch.specs.declared.stamped.StampedReader.{StampedReader}
 use Rattle.nx_watch.specs.declared.lines.line_effects.StartMoments.{StartMoments}
 use Rattle.nx_watch.specs.private.Keeping.{HasKept}
 use Rattle.nx_watch.proofs.lemmas.log.Keeping.{fresh-keeper, keeps-stands, kept-none}
@@ -379,3 +382,22 @@ returns-clause-told g c =
     c.run_watch.ensures.told (g.F.Write.contents c.args.notices.now.inner) some.0 some.1 some.2
     c.requires.loggable b.0
     b.1 b.2 b.3
+
+-- ---- the stamps are the reads
+
+-- nothing was read
+unread : {R D W N : Type 0} (remaining : R → Option (List ℕ)) (reader : StampedReader R D W N)
+    → IsFresh reader → HasStampedReads remaining reader reader
+unread remaining reader fresh = (
+  [],
+  Consumes-nil (remaining (counted_of reader).inner),
+  subst (λ s. AreTheReads s 0) (sym fresh.none_made) refl,
+)
+
+pub returns-in-Err-clause-stamps : goal.returns-in-Err-clause-stamps
+returns-in-Err-clause-stamps g c =
+    unread g.R.Read.remaining c.args.reader.now c.requires.reader
+
+pub returns-in_default-clause-stamps : goal.returns-in_default-clause-stamps
+returns-in_default-clause-stamps g c =
+    unread g.R.Read.remaining c.args.reader.now c.requires.reader

@@ -1,5 +1,5 @@
 -- What is told of the bytes that a start cuts.
-use Rattle.std.proofs.Common.{◌≡◌, ◌⊎◌, ◌==◌, true, inl, inr, ℕ, zero, suc, ◌+◌, ◌<◌, ◌≤◌, List, [], ◌∷◌, ◌++◌, length, drop, take}
+use Rattle.std.proofs.Common.{◌≡◌, ◌⊎◌, ◌==◌, Bool, false, true, inl, inr, ℕ, zero, suc, ◌+◌, ◌<◌, ◌≤◌, List, [], ◌∷◌, ◌++◌, length, drop, take}
 use Rattle.std.proofs.Common.{Option, Result, Ok, Err, refl, sym, ap, ◌∙◌, subst, arith, append_assoc, append-nil, length-drop, take-append-drop, ◌-◌}
 use Rattle.std.specs.Prelude.{IfErr, IfOk, codes, decimal}
 use Rattle.std.specs.List.{flat_map}
@@ -17,7 +17,7 @@ use Rattle.nx_kept.specs.Taker.{HeardOfCut, Took, TookAll, TookOnly, TookSome, c
 use Rattle.nx_log.specs.Entries.{IsWholeEntry}
 use Rattle.nx_log.specs.View.{IsViewOf, copy_said}
 use Rattle.nx_log.specs.declared.entries.entry.EntryView.{EntryView}
-use Rattle.nx_watch.specs.CutTold.{AreHeads, BeginsWithEntry, TellsOfSomeCut, count_told, cut_told, head_told}
+use Rattle.nx_watch.specs.CutTold.{AreHeads, BeginsWithEntry, TellsOfSomeCut, count_told, count_told_of, cut_told, head_told}
 use Rattle.nx_watch.specs.LineRun.{HasTold}
 use Rattle.nx_watch.specs.Watch.{TellsOfCut, longest_entry}
 use Rattle.nx_watch.proofs.lemmas.lines.Run.{nothing}
@@ -129,27 +129,46 @@ module _ {F : Type 0} (contents : F → Option (List ℕ)) where
       some : (n : ℕ) → 0 < n → (n == 0) ≡ true → ⊥
       some n h e = grind (arith, nat_tests)
 
-  -- how many bytes, at which line, and the heads
-  pub tells-cut : (old one two new : CountedDevice F) (line count : ℕ) (bytes : List ℕ)
+  -- of one byte it is told as of one
+  pub count-one : (count line : ℕ) → count ≡ 1
+      → count_told_of true count line ≡ count_told count line
+  count-one count line is =
+      sym (ap (λ (one : Bool). count_told_of one count line) (ap (λ (n : ℕ). n == 1) is))
+
+  pub count-other : (count line : ℕ) → (count ≡ 1 → ⊥)
+      → count_told_of false count line ≡ count_told count line
+  count-other count line other =
+      sym (ap (λ (one : Bool). count_told_of one count line) (decided (count == 1) refl))
+    where
+      decided : (b : Bool) → (count == 1) ≡ b → (count == 1) ≡ false
+      decided false is = is
+      decided true is = absurd (other (grind (arith, nat_tests)))
+
+  -- how many bytes, and at which line
+  pub tells-numbers : (old one two : CountedDevice F) (count line : ℕ) (a b c : List ℕ)
+      → TellsMore contents old one (a ++ (decimal count ++ b))
+      → TellsMore contents one two (decimal line ++ c)
+      → TellsMore contents old two (a ++ (decimal count ++ (b ++ (decimal line ++ c))))
+  tells-numbers old one two count line a b c first second =
+      let more = decimal line ++ c in
+      tells-same old two ((a ++ (decimal count ++ b)) ++ more)
+      (a ++ (decimal count ++ (b ++ more)))
+      (append_assoc a (decimal count ++ b) more
+      ∙ ap (λ (l : List ℕ). a ++ l) (append_assoc (decimal count) b more))
+      (tells-both old one two (a ++ (decimal count ++ b)) more first second)
+
+  -- and the heads
+  pub tells-cut : (old two new : CountedDevice F) (line count : ℕ) (bytes : List ℕ)
       (heads : List (List ℕ)) → 0 < length bytes → count ≡ length bytes
-      → TellsMore contents old one
-      (codes "navtex: " ++ (decimal count ++ codes " bytes at line "))
-      → TellsMore contents one two
-      (decimal line ++ codes " of the log are no kept entry, and are cut\n")
+      → TellsMore contents old two (count_told count line)
       → TellsMore contents two new (flat_map head_told heads)
       → TellsMore contents old new (cut_told line bytes heads)
-  tells-cut old one two new line count bytes heads some is first second third =
-      let a = codes "navtex: " in
-      let b = codes " bytes at line " in
-      let c = decimal line ++ codes " of the log are no kept entry, and are cut\n" in
-      let whole : (a ++ (decimal count ++ b)) ++ c ≡ count_told count line =
-      append_assoc a (decimal count ++ b) c ∙ ap (λ l. a ++ l) (append_assoc (decimal count) b c) in
-      tells-same old new (((a ++ (decimal count ++ b)) ++ c) ++ flat_map head_told heads)
+  tells-cut old two new line count bytes heads some is first second =
+      tells-same old new (count_told count line ++ flat_map head_told heads)
       (cut_told line bytes heads)
-      (ap (λ l. l ++ flat_map head_told heads)
-      (whole ∙ ap (λ n. count_told n line) is) ∙ cut-some line bytes heads some)
-      (tells-both old two new ((a ++ (decimal count ++ b)) ++ c) (flat_map head_told heads)
-      (tells-both old one two (a ++ (decimal count ++ b)) c first second) third)
+      (ap (λ (n : ℕ). count_told n line ++ flat_map head_told heads) is
+      ∙ cut-some line bytes heads some)
+      (tells-both old two new (count_told count line) (flat_map head_told heads) first second)
 
 -- ---- an opening
 

@@ -26,10 +26,10 @@ use Rattle.nx_copies.specs.copies.Log.{IsLog, IsPrinting, Printing}
 use Rattle.nx_copies.specs.copies.Shares.{MarkedCopy, Starts, marked}
 use Rattle.nx_watch.specs.Acting.{acting_lines, goes_on, most_bytes}
 use Rattle.nx_watch.specs.declared.lines.line_effects.StartMoments.{StartMoments}
-use Rattle.nx_watch.specs.Watch.{AnswersOverBy, AnswersStop, FailsWithin, FailsWrites, HadFailed, HadKept, HadWritten, HasCause, HasRead, HasWatchedOverBy, KeepsAll, KeepsSome, LeavesAtAnyMoment, PrintsLoggable, StoodOverBy, TellsOfCut}
+use Rattle.nx_watch.specs.Watch.{AnswersOverBy, AnswersStop, EndsAtRead, FailsWithin, FailsWrites, HadFailed, HadKept, HadWritten, HasCause, HasRead, HasWatchedOverBy, KeepsAll, KeepsSome, LeavesAtAnyMoment, PrintsLoggable, StoodOverBy, TellsOfCut}
 use Rattle.nx_watch.specs.Watch.{PrintsUntilBy, StandsForEntries, Stop, WatchDevices, at_end, back, moments_at, unread, unwritten}
 use Rattle.nx_watch.specs.LineRun.{HasTold, WereGiven}
-use Rattle.nx_watch.specs.Stamp.{Stamp}
+use Rattle.nx_watch.specs.Stamp.{AreTheReads, Stamp}
 use Rattle.nx_watch.specs.declared.kept_log.keeper.Keeper.{Keeper}
 use Rattle.nx_watch.specs.declared.watch_report.WatchReport.{WatchReport}
 use Rattle.nx_watch.specs.declared.watch_fault.WatchFault.{WatchFault}
@@ -478,6 +478,8 @@ module _ {D C R W E : Type 0} {kind : ReceiverKind C} (laws : IsReceiver kind)
       pub wrote : WereGiven contents writer writer_after given
       pub consumed : Consumes (remaining reader.inner) (remaining reader_after.inner) bytes
       pub within : length bytes ≤ most_bytes
+      pub reads : AreTheReads stamps (length bytes)
+      pub last_read : EndsAtRead stop (length bytes) stamps
       pub read : HasRead (IsAtEnd (remaining reader_after.inner) ⊎ (length bytes ≡ most_bytes))
           first stop bytes lines
       pub printed : PrintsUntilBy kind.printing stop (starts_by kind logging.listener)
@@ -644,6 +646,8 @@ module _ {D C R W E : Type 0} {kind : ReceiverKind C} (laws : IsReceiver kind)
           bytes = h.bytes;
           consumed = h.consumed;
           within = h.within;
+          stamps = h.reads;
+          last_read = h.last_read;
           read = subst (λ f. HasRead (IsAtEnd (remaining reader_after.inner)
               ⊎ (length h.bytes ≡ most_bytes)) f stop h.bytes h.lines) is h.read;
           printed = subst (λ f. PrintsUntilBy kind.printing stop (starts_by kind logging.listener)

@@ -293,6 +293,8 @@ module _ {D R W E : Type 0} (disk : TellsOfDisk D) (content : List ℕ) (old mid
             within = w.within;
             read = w.read;
             printed = w.printed;
+            stamps = w.stamps;
+            last_read = w.last_read;
             before_each_read =
                 All-weaker _ _ (stood-before printing file now starts entries h.2 w.bytes same)
                 stamps

@@ -1,5 +1,5 @@
 -- What stood at the reads of a run, and how the run went on from there.
-use Rattle.std.proofs.Common.{◌≡◌, inl, ℕ, ◌≤◌, true, false, List, [], ◌∷◌, ◌++◌, length, take, drop}
+use Rattle.std.proofs.Common.{◌≡◌, ◌⊎◌, inl, inr, ℕ, ◌+◌, ◌≤◌, true, false, List, [], ◌∷◌, ◌++◌, length, take, drop}
 use Rattle.std.proofs.Common.{nat_le, Option, Some, None, refl, sym, ap, ◌∙◌, subst, append_assoc, append-nil, arith}
 use Rattle.std.proofs.Common.{length-append, option_to_list, cond}
 use Rattle.std.specs.List.{All, AllZip, flat_map}
@@ -8,7 +8,7 @@ use Rattle.std.proofs.lemmas.List.Elements.{All-cons, All-nil, All-weaker}
 use Rattle.nx_envelope.specs.Moment.{last_moment}
 use Rattle.nx_fec.specs.air_files.AirFile.{Line, moment, elements, refuse_station, accept_station}
 use Rattle.nx_fec.specs.air_files.AirFile.{refuse_subject, accept_subject}
-use Rattle.nx_fec.specs.Transfers.{CountedDevice}
+use Rattle.nx_fec.specs.Transfers.{CountedDevice, max_piece}
 use Rattle.nx_fec.proofs.lemmas.lines.LineLaws.{first_feed}
 use Rattle.nx_kept.specs.declared.disk.DiskFile.{Ghosts as TellsOfDisk}
 use Rattle.nx_receiver.specs.ChannelReceiver.{ReceiverKind}
@@ -16,7 +16,7 @@ use Rattle.nx_watch.specs.Acting.{acting_behind, acting_lines, acts, moment_said
 use Rattle.nx_watch.specs.Acting.{with_start}
 use Rattle.nx_watch.specs.AnyLines.{AreLines, Says, ended}
 use Rattle.nx_watch.specs.LineRun.{HasTaken}
-use Rattle.nx_watch.specs.Stamp.{Stamp, stamp}
+use Rattle.nx_watch.specs.Stamp.{AreTheReads, LastGaveNone, Stamp, stamp}
 use Rattle.nx_watch.specs.declared.lines.line_effects.LineEffects.{LineEffects}
 use Rattle.nx_watch.specs.declared.lines.line_effects.StartMoments.{StartMoments}
 use Rattle.nx_watch.specs.declared.line_run.LineRun.{LineRun}
@@ -32,6 +32,32 @@ use Rattle.nx_watch.proofs.lemmas.lines.Run.{acting-idle, ends-idle, nothing}
 use Rattle.nx_watch.proofs.lemmas.lines.Scanning.{Parts-lines, parts}
 use Rattle.nx_watch.proofs.lemmas.lines.Told.{by-read}
 use Rattle.nx_watch.proofs.lemmas.log.Keeping.{kept-since}
+
+-- ---- the stamps are the reads
+
+module _ {D W N : Type 0} (old new : List (Stamp D W N)) (read : ℕ) where
+  -- with one more, which stands where those before it end
+  pub reads-on : (gave total : ℕ) (disk : D) (writer : W) (notices : N)
+      → new ≡ stamp read gave disk writer notices ∷ old → total ≡ read + gave → gave ≤ max_piece
+      → AreTheReads old read → AreTheReads new total
+  reads-on gave total disk writer notices made is few reads =
+      subst (λ s. AreTheReads s total) (sym made) (is, few, reads)
+
+  -- one that gave nothing
+  pub gave-none : (disk : D) (writer : W) (notices : N)
+      → new ≡ stamp read 0 disk writer notices ∷ old → LastGaveNone new
+  gave-none disk writer notices made = subst LastGaveNone (sym made) refl
+
+-- of as many bytes as were given
+pub reads-all : {D W N : Type 0} (stamps : List (Stamp D W N)) (total given : ℕ) → total ≡ given
+    → AreTheReads stamps given → AreTheReads stamps total
+reads-all stamps total given is reads = subst (AreTheReads stamps) (sym is) reads
+
+pub ends-so : {D W N : Type 0} (stamps : List (Stamp D W N)) (total given limit : ℕ)
+    → total ≡ given → LastGaveNone stamps ⊎ (given ≡ limit)
+    → LastGaveNone stamps ⊎ (total ≡ limit)
+ends-so stamps total given limit is (inl none) = inl none
+ends-so stamps total given limit is (inr all) = inr (is ∙ all)
 
 -- ---- the lines of a beginning of bytes
 
@@ -195,7 +221,7 @@ module _ {D C W N : Type 0} (kind : ReceiverKind C) (disk : TellsOfDisk D)
     -- the run, as it stands where it asks for more
     pub stamp-now : (now : LoggingOver D C) (writer : CountedDevice W)
         (notices : CountedDevice N) (run : LineRun) (beside : ToldBeside) (bytes : List ℕ)
-        (read : ℕ)
+        (read gave : ℕ)
         → IsBeside old now.keeper.has_failed beside → read ≡ length bytes → writer.failures ≡ 0
         → ((content file : List ℕ)
         → disk.left_since content now.keeper.log.device (disk.moment now.keeper.log.device) file
@@ -205,8 +231,8 @@ module _ {D C W N : Type 0} (kind : ReceiverKind C) (disk : TellsOfDisk D)
         → Was bytes (λ lines. length lines ≤ run.effects.lines)
         (λ since. IsRunning Stands since (logging_to now writer) first run beside
         (told notices.inner) notices.failures bytes)
-        (stamp read now.keeper.log.device writer notices)
-    stamp-now now writer notices run beside bytes read sides is none only_now h = record {
+        (stamp read gave now.keeper.log.device writer notices)
+    stamp-now now writer notices run beside bytes read gave sides is none only_now h = record {
       within = omega (arith, is);
       lines = h.lines;
       rest = run.lines.scanner.scanner.part ++ h.scans.passed;

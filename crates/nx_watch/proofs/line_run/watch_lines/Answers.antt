@@ -40,7 +40,7 @@ returns-in-Ok-clause-watched g c = λ start old force well stood told.
     run.lines) (append-nil r.0) (run.tells [])) in (
       r.0,
       r.1,
-      omega (arith, r.2, c.new.ensures.room),
+      (omega (arith, r.2.0, c.new.ensures.room), r.2.1),
       (
         at-limit _ _ _ _ r.5.0 c.new.ensures.room,
         run.lines,
@@ -72,7 +72,7 @@ returns-in-Err-clause-watched g c = λ start old force well stood told.
     c.args.writer.now stood c.requires.writer) told) in (
       r.0,
       r.1,
-      omega (arith, r.2, c.new.ensures.room),
+      (omega (arith, r.2.0, c.new.ensures.room), r.2.1),
       answers-told (record {
         stands = StandsStamped (telling kind disk g.W.Write.contents g.F.Write.contents old)
             c.args.first r.0 stamps;
@@ -92,3 +92,13 @@ returns-in-Err-clause-watched g c = λ start old force well stood told.
           (ends-stamped kind disk g.W.Write.contents g.F.Write.contents old c.args.first before now
           c.read_lines.new.self.effects r.3 now_told failures c.in-Err.end r.0 stamps r.5),
     )
+
+-- at the limit that there was
+room-limit : (End : Type 0) (given room limit : ℕ) → End ⊎ (given ≡ room) → room ≡ limit
+    → End ⊎ (given ≡ limit)
+room-limit End given room limit (inl end) is = inl end
+room-limit End given room limit (inr all) is = inr (all ∙ is)
+
+pub returns-in-Ok-clause-ended : goal.returns-in-Ok-clause-ended
+returns-in-Ok-clause-ended g c =
+    room-limit _ _ _ _ c.in-Ok.ensures.ended c.new.ensures.room

@@ -22,6 +22,7 @@ use Rattle.nx_watch.specs.declared.line_run.WatchEnd.TheVariants.{Read, Back, Wr
 use Rattle.nx_watch.specs.private.Keeping.{HasKept}
 use Rattle.nx_watch.specs.private.LoggingListener.{logging_to}
 use Rattle.nx_watch.proofs.lemmas.log.Finish.{back-apart, closed-on, end-apart, has-run, heard-on, none-failed, none-yet-failed, stamps-keep, stands-first, unwritten-apart, wrote-some, zip-length}
+use Rattle.nx_watch.proofs.lemmas.log.Stamping.{ends-so, reads-all}
 use Rattle.nx_watch.proofs.lemmas.lines.Run.{acting-cut, acting-idle, ends-idle, tells-some}
 use Rattle.nx_watch.proofs.lemmas.lines.Told.{at-end, at-finish}
 use Rattle.nx_watch.proofs.watch_run.run_watch.Goals as goal
@@ -77,7 +78,9 @@ returns-in-Ok-clause-runs g c = λ notices cut told loggable is none range heard
       kept = closed.kept.1;
       wrote = closed.kept.2;
       consumed = w.1;
-      within = w.2;
+      within = w.2.0;
+      reads = reads-all _ _ _ w.2.1 c.watch_lines.ensures.stamps;
+      last_read = ends-so _ _ _ most_bytes w.2.1 c.in-Ok.ensures.ended;
       read = (w.3.0, w.3.1, w.3.2, w.3.3, refl, w.3.4.on);
       printed = subst (λ l. PrintAllToEndBy kind.printing (starts_by kind logging.listener)
           (given_by l) closed.copies)
@@ -158,7 +161,9 @@ returns-in-Back-clause-runs g c = λ notices cut told loggable is none range hea
       kept = closed.kept.1;
       wrote = closed.kept.2;
       consumed = w.1;
-      within = w.2;
+      within = w.2.0;
+      reads = reads-all _ _ _ w.2.1 c.watch_lines.ensures.stamps;
+      last_read = tt;
       read = (
         ended.0,
         refl,
@@ -239,7 +244,9 @@ returns-in-Read-clause-runs g c = λ notices cut told loggable is none range hea
           (sym c.into_keeper.ensures) stood.1.kept;
       wrote = stood.2;
       consumed = w.1;
-      within = w.2;
+      within = w.2.0;
+      reads = reads-all _ _ _ w.2.1 c.watch_lines.ensures.stamps;
+      last_read = c.watch_lines.ensures.failed (c.in-Err.is ∙ ap Err c.in-Read.is);
       read = (ended.1, ended.2, ended.3.on);
       printed = stood.1.heard.in_turn;
       failed_read =
@@ -311,7 +318,9 @@ returns-in-Write-clause-runs g c = λ notices cut told loggable is none range he
           (sym c.into_keeper-in-Write.ensures) stood.1.kept;
       wrote = stood.2;
       consumed = w.1;
-      within = w.2;
+      within = w.2.0;
+      reads = reads-all _ _ _ w.2.1 c.watch_lines.ensures.stamps;
+      last_read = tt;
       read = (ended.0, ended.1, refl, ended.2);
       printed = stood.1.heard.in_turn;
       failed_read = (

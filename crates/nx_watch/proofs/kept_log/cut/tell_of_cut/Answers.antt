@@ -12,7 +12,7 @@ returns g c =
     let told = c.tell_heads.ensures in (
       told.0,
       told.1,
-      tells-cut g.F.Write.contents c.args.notices.now c.tell.new.notices c.tell-2.new.notices
+      tells-cut g.F.Write.contents c.args.notices.now c.tell_count.new.notices
           c.tell_heads.new.notices c.args.line (length c.args.bytes.now) c.args.bytes.now told.0
-          (search rules) refl c.tell.ensures c.tell-2.ensures told.2,
+          (search rules) refl c.tell_count.ensures told.2,
     )

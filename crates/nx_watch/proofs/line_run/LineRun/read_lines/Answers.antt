@@ -4,8 +4,8 @@ use Rattle.std.specs.List.{All}
 use Rattle.std.proofs.KnownBytes.{Consumes-kept, Consumes-trans}
 use Rattle.std.specs.Io.KnownBytes.{Consumes}
 use Rattle.nx_receiver.specs.Listener.{ListeningOver, starts_by}
-use Rattle.nx_watch.specs.Stamp.{stamp}
-use Rattle.nx_watch.specs.Stamps.{bytes_given, counted_of, stamps_of}
+use Rattle.nx_watch.specs.Stamp.{AreTheReads, stamp}
+use Rattle.nx_watch.specs.Stamps.{HasStampedReads, bytes_given, counted_of, stamps_of}
 use Rattle.nx_watch.specs.private.AnyReading.{GoesOn}
 use Rattle.nx_watch.specs.private.LoggingListener.{LoggingTo, TakesLines, logging_to}
 use Rattle.nx_watch.specs.private.Running.{EndsRun, IsBeside, IsRunning, TellsFirst, ToldBefore, ToldBeside, beside}
@@ -18,7 +18,7 @@ use Rattle.nx_watch.proofs.lemmas.lines.AnyLines.{looked-all, looked-length, loo
 use Rattle.nx_watch.proofs.lemmas.lines.AnyLines.{running-read}
 use Rattle.nx_watch.proofs.lemmas.lines.Run.{answers-told, running-told}
 use Rattle.nx_watch.proofs.lemmas.lines.Told.{told-beside}
-use Rattle.nx_watch.proofs.lemmas.log.Stamping.{later-bytes, says-too, stamp-now, stamped-now}
+use Rattle.nx_watch.proofs.lemmas.log.Stamping.{gave-none, later-bytes, reads-on, says-too, stamp-now, stamped-now}
 use Rattle.nx_watch.proofs.line_run.LineRun.read_lines.Goals as goal
 use Rattle.nx_watch.proofs.line_run.LineRun.read_lines.Goals.{After-read}
 
@@ -110,7 +110,7 @@ stamped : (g : _) → (c : After-read g)
     → (h : IsRunning (TakesLines g.C.ChannelReceiver.kind g.D.DiskFile g.W.Write.contents) start
     (logging_to c.args.logging.now c.args.writer.now) first c.args.self.now (beside old)
     (g.F.Write.contents c.args.notices.now.inner) c.args.notices.now.failures [])
-    → stamps_of c.read.new.reader ≡ stamp (bytes_given c.loop-has_failed.reader)
+    → (gave : ℕ) → stamps_of c.read.new.reader ≡ stamp (bytes_given c.loop-has_failed.reader) gave
     c.take_next.new.logging.keeper.log.device c.take_next.new.writer c.tell_failed_put.new.notices
     ∷ stamps_of c.loop-has_failed.reader
     → All (WasRunning (telling g.C.ChannelReceiver.kind g.D.DiskFile g.W.Write.contents
@@ -123,7 +123,7 @@ stamped : (g : _) → (c : After-read g)
     (g.F.Write.contents c.tell_failed_put.new.notices.inner)
     c.tell_failed_put.new.notices.failures (settled g c start first old force well h).0))
     (stamps_of c.read.new.reader)
-stamped g c start first old force well h made =
+stamped g c start first old force well h gave made =
     let disk = g.D.DiskFile in
     let kind = g.C.ChannelReceiver.kind in
     let contents = g.W.Write.contents in
@@ -138,11 +138,11 @@ stamped g c start first old force well h made =
     (λ since. IsRunning (TakesLines kind disk contents) since
     (logging_to c.take_next.new.logging c.take_next.new.writer) first run s.3 (told after.inner)
     after.failures s.0)
-    (stamp at c.take_next.new.logging.keeper.log.device c.take_next.new.writer after)
+    (stamp at gave c.take_next.new.logging.keeper.log.device c.take_next.new.writer after)
     (stamps_of c.loop-has_failed.reader) (stamps_of c.read.new.reader) made
     (stamp-now kind disk contents told old first start c.take_next.new.logging
     c.take_next.new.writer
-    after run s.3 s.0 at s.4 (omega (arith, inv.given, s.2, c.take_next.ensures.unread))
+    after run s.3 s.0 at gave s.4 (omega (arith, inv.given, s.2, c.take_next.ensures.unread))
     c.in-Ok-false.ensures.open (λ content file left. g.met.D.DiskFile.only_now content _ file left)
     s.5.from_start) s.5.from_reads
 
@@ -163,6 +163,8 @@ loop-has_failed-preserved-in-Ok-true g c =
     record {
       writer = c.in-Ok-true.ensures.open;
       reader = inv.reader;
+      stamps = inv.stamps;
+      consumed = inv.consumed;
       given = omega (arith, inv.given, same_room);
       room = omega (arith, inv.room, c.in-Ok-true.ensures.room, same_room);
       within = c.in-Ok-true.ensures.within;
@@ -221,6 +223,24 @@ loop-has_failed-preserved g c =
     record {
       writer = c.in-Ok-false.ensures.open;
       reader = w.well;
+      stamps = reads-on (stamps_of c.loop-has_failed.reader) (stamps_of c.read.new.reader)
+          (bytes_given c.loop-has_failed.reader) (length c.read.new.self.piece)
+          (bytes_given c.read.new.reader) _ _ _ c.in-Bytes.ensures.read.0
+          (omega (arith, inv.given, w.given, w.room, same_room, c.requires.limit)) w.few inv.stamps;
+      consumed = (
+        inv.consumed.0 ++ c.read.new.self.piece,
+        Consumes-trans _ _ _ _ _ inv.consumed.1 w.consumed,
+        omega (
+          arith,
+          length-append inv.consumed.0 c.read.new.self.piece,
+          inv.consumed.2,
+          inv.given,
+          w.given,
+          w.room,
+          same_room,
+          c.requires.limit,
+        ),
+      );
       given = omega (arith, inv.given, w.given, w.room, same_room, c.requires.limit);
       room = omega (arith, inv.room, w.room, c.in-Ok-false.ensures.room, same_room, scanner_room);
       within = omega (arith, c.in-Ok-false.ensures.within, scanner_room);
@@ -246,7 +266,8 @@ loop-has_failed-preserved g c =
                   after.failures s.0) (λ stamp was. was.behind)
                   (λ since is k. running-read stands since now first run new s.3 (told after.inner)
                   after.failures s.0 same refl k) (stamps_of c.read.new.reader)
-                  (stamped g at start first old force well h c.in-Bytes.ensures.read.0);
+                  (stamped g at start first old force well h (length c.read.new.self.piece)
+                      c.in-Bytes.ensures.read.0);
             },
           );
     }
@@ -264,6 +285,7 @@ returns-in-End-clause-read g c = λ start first old force well h.
     let after = c.tell_failed_put.new.notices in
     let same = c.read.ensures.scanner in
     let at = (goal.at.returns-in-End-clause-read g c).After-read in
+    let inv = c.loop-has_failed.invariant in
     let s = settled g at start first old force well h in
     let on = λ (since : LoggingTo g.row.D.Denot g.row.C.Denot g.row.W.Denot)
     (k : IsRunning stands since now first run s.3 (told after.inner) after.failures s.0).
@@ -275,7 +297,16 @@ returns-in-End-clause-read g c = λ start first old force well h.
         subst (λ (r : StampedReader _ _ _ _). Consumes
             (g.R.Read.remaining (counted_of c.args.reader.now).inner)
             (g.R.Read.remaining (counted_of r).inner) s.0) (sym e.1) s.1,
-        omega (arith, s.2),
+        (
+          omega (arith, s.2),
+          omega (
+            arith,
+            s.2,
+            inv.given,
+            c.take_next.ensures.unread,
+            ap (λ (r : StampedReader _ _ _ _). bytes_given r) e.1,
+          ),
+        ),
         s.3,
         s.4,
         (
@@ -301,7 +332,17 @@ returns-in-End-clause-read g c = λ start first old force well h.
       | inr e ↦ (
         s.0,
         Consumes-kept _ _ _ s.0 s.1 e.1.keeps,
-        omega (arith, s.2),
+        (
+          omega (arith, s.2),
+          omega (
+            arith,
+            s.2,
+            inv.given,
+            e.1.given,
+            c.take_next.ensures.unread,
+            c.requires.limit,
+          ),
+        ),
         s.3,
         s.4,
         (
@@ -316,7 +357,7 @@ returns-in-End-clause-read g c = λ start first old force well h.
                 (λ since. IsRunning stands since now first new s.3 (told after.inner)
                 after.failures s.0) (λ stamp was. was.behind) (λ since is k. on since k)
                 (stamps_of c.read.new.reader)
-                (stamped g at start first old force well h e.0);
+                (stamped g at start first old force well h 0 e.0);
           },
         ),
       )
@@ -333,11 +374,22 @@ returns-in-Failed-clause-read g c = λ start first old force well h.
     let now = logging_to c.take_next.new.logging c.take_next.new.writer in
     let after = c.tell_failed_put.new.notices in
     let at = (goal.at.returns-in-Failed-clause-read g c).After-read in
+    let inv = c.loop-has_failed.invariant in
     let s = settled g at start first old force well h in
     let e = c.in-Failed.ensures.read in (
       s.0,
       Consumes-kept _ _ _ s.0 s.1 e.1.keeps,
-      omega (arith, s.2),
+      (
+        omega (arith, s.2),
+        omega (
+          arith,
+          s.2,
+          inv.given,
+          e.1.given,
+          c.take_next.ensures.unread,
+          c.requires.limit,
+        ),
+      ),
       s.3,
       s.4,
       record {
@@ -352,7 +404,7 @@ returns-in-Failed-clause-read g c = λ start first old force well h.
             after.failures Read s.0) (λ stamp was. was.behind)
             (λ since is k. running-fails stands since now first run s.3 (told after.inner)
             after.failures s.0 k) (stamps_of c.read.new.reader)
-            (stamped g at start first old force well h e.0);
+            (stamped g at start first old force well h 0 e.0);
       },
     )
 
@@ -395,7 +447,10 @@ returns-in-Err-clause-read g c = λ start first old force well h.
     (t.3 since first r.3 r.0 same k [])) in (
       bytes,
       r.1,
-      omega (arith, r.2, length-append r.0 piece),
+      (
+        omega (arith, r.2, length-append r.0 piece),
+        omega (arith, r.2, length-append r.0 piece, inv.given),
+      ),
       b.0,
       b.1,
       record {
@@ -414,3 +469,80 @@ returns-in-Err-clause-read g c = λ start first old force well h.
             (stamps_of was.reader) r.5.from_reads;
       },
     )
+
+-- the stamps are the reads
+pub returns-in-End-clause-stamps : goal.returns-in-End-clause-stamps
+returns-in-End-clause-stamps g c =
+    let inv = c.loop-has_failed.invariant in
+    elim c.in-End.ensures.read [
+      | inl e ↦ subst (λ (r : StampedReader _ _ _ _). AreTheReads (stamps_of r) (bytes_given r))
+          (sym e.1) inv.stamps
+      | inr e ↦ reads-on (stamps_of c.loop-has_failed.reader) (stamps_of c.read.new.reader)
+          (bytes_given c.loop-has_failed.reader) 0 (bytes_given c.read.new.reader) _ _ _ e.0
+          (omega (arith, inv.given, e.1.given, c.requires.limit)) (omega arith) inv.stamps
+    ]
+
+pub returns-in-Failed-clause-stamps : goal.returns-in-Failed-clause-stamps
+returns-in-Failed-clause-stamps g c =
+    let inv = c.loop-has_failed.invariant in
+    let e = c.in-Failed.ensures.read in
+    reads-on (stamps_of c.loop-has_failed.reader) (stamps_of c.read.new.reader)
+    (bytes_given c.loop-has_failed.reader) 0 (bytes_given c.read.new.reader) _ _ _ e.0
+    (omega (arith, inv.given, e.1.given, c.requires.limit)) (omega arith) inv.stamps
+
+-- of the bytes that were read
+pub returns-in-End-clause-consumed : goal.returns-in-End-clause-consumed
+returns-in-End-clause-consumed g c =
+    let inv = c.loop-has_failed.invariant in
+    let b = inv.consumed in
+    elim c.in-End.ensures.read [
+      | inl e ↦ subst (λ (r : StampedReader _ _ _ _). HasStampedReads g.R.Read.remaining
+          c.args.reader.now r) (sym e.1)
+          (b.0, b.1, subst (AreTheReads (stamps_of c.loop-has_failed.reader)) (sym b.2) inv.stamps)
+      | inr e ↦ (
+        b.0,
+        Consumes-kept _ _ _ b.0 b.1 e.1.keeps,
+        reads-on (stamps_of c.loop-has_failed.reader) (stamps_of c.read.new.reader)
+            (bytes_given c.loop-has_failed.reader) 0 (length b.0) _ _ _ e.0
+            (omega (arith, b.2)) (omega arith) inv.stamps,
+      )
+    ]
+
+pub returns-in-Failed-clause-consumed : goal.returns-in-Failed-clause-consumed
+returns-in-Failed-clause-consumed g c =
+    let inv = c.loop-has_failed.invariant in
+    let b = inv.consumed in
+    let e = c.in-Failed.ensures.read in (
+      b.0,
+      Consumes-kept _ _ _ b.0 b.1 e.1.keeps,
+      reads-on (stamps_of c.loop-has_failed.reader) (stamps_of c.read.new.reader)
+          (bytes_given c.loop-has_failed.reader) 0 (length b.0) _ _ _ e.0
+          (omega (arith, b.2)) (omega arith) inv.stamps,
+    )
+
+pub returns-in-Err-clause-consumed : goal.returns-in-Err-clause-consumed
+returns-in-Err-clause-consumed g c =
+    let inv = c.loop-has_failed.invariant in
+    let b = inv.consumed in
+    (b.0, b.1, subst (AreTheReads (stamps_of c.loop-has_failed.reader)) (sym b.2) inv.stamps)
+
+-- the last one found the end, or failed
+pub returns-in-End-clause-ended : goal.returns-in-End-clause-ended
+returns-in-End-clause-ended g c =
+    let inv = c.loop-has_failed.invariant in
+    elim c.in-End.ensures.read [
+      | inl e ↦ inr (omega (
+        arith,
+        e.0,
+        inv.given,
+        c.take_next.ensures.unread,
+        ap (λ (r : StampedReader _ _ _ _). bytes_given r) e.1,
+      ))
+      | inr e ↦ inl (gave-none (stamps_of c.loop-has_failed.reader) (stamps_of c.read.new.reader)
+          (bytes_given c.loop-has_failed.reader) _ _ _ e.0)
+    ]
+
+pub returns-in-Failed-clause-failed : goal.returns-in-Failed-clause-failed
+returns-in-Failed-clause-failed g c = λ same.
+    gave-none (stamps_of c.loop-has_failed.reader) (stamps_of c.read.new.reader)
+    (bytes_given c.loop-has_failed.reader) _ _ _ c.in-Failed.ensures.read.0

@@ -2,6 +2,7 @@ use Rattle.std.proofs.Common.{◌≡◌, true, false, ◌+◌, ◌*◌, ◌≤�
 use Rattle.std.specs.Io.KnownBytes.{Consumes}
 use Rattle.nx_receiver.specs.Listener.{starts_by}
 use Rattle.nx_watch.specs.Acting.{most_bytes}
+use Rattle.nx_watch.specs.Stamp.{AreTheReads}
 use Rattle.nx_watch.specs.Stamps.{bytes_given, counted_of, stamps_of}
 use Rattle.nx_watch.specs.private.LoggingListener.{LoggingTo, TakesLines, logging_to}
 use Rattle.nx_watch.specs.declared.lines.line_effects.StartMoments.{StartMoments}
@@ -14,6 +15,11 @@ abbrev pub invariant-loop-has_failed : goal.invariant-loop-has_failed
 invariant-loop-has_failed g l = record {
   writer : l.writer.failures ≡ 0;
   reader : (counted_of l.reader).failures ≡ 0;
+  stamps : AreTheReads (stamps_of l.reader) (bytes_given l.reader);
+  consumed : (bytes : List ℕ)
+      × Consumes (g.R.Read.remaining (counted_of l.fn.reader).inner)
+      (g.R.Read.remaining (counted_of l.reader).inner) bytes
+      × (length bytes ≡ bytes_given l.reader);
   given : bytes_given l.reader + l.self.lines.room ≡ l.fn.self.lines.room;
   room : l.self.lines.room + length l.self.lines.piece ≤ l.self.lines.scanner.scanner.room;
   within : l.self.lines.scanner.scanner.room ≤ most_bytes;

@@ -59,10 +59,13 @@ module _ (A B E : RattleType) where
     (
       stay_dropped (RefOf (1 ∷ []) tt (plain (λ _. u64)) (λ _. tt)) yes,
       (
-        stay_dropped (RefOf (2 ∷ []) tt (plain (λ _. param 0 A)) (λ _. tt)) yes,
+        stay_dropped (RefOf (2 ∷ []) tt (plain (λ _. u64)) (λ _. tt)) yes,
         (
-          stay_dropped (RefOf (3 ∷ []) tt (plain (λ _. param 1 B)) (λ _. tt)) yes,
-          (stay_dropped (RefOf (4 ∷ []) tt (plain (λ _. param 2 E)) (λ _. tt)) yes, tt),
+          stay_dropped (RefOf (3 ∷ []) tt (plain (λ _. param 0 A)) (λ _. tt)) yes,
+          (
+            stay_dropped (RefOf (4 ∷ []) tt (plain (λ _. param 1 B)) (λ _. tt)) yes,
+            (stay_dropped (RefOf (5 ∷ []) tt (plain (λ _. param 2 E)) (λ _. tt)) yes, tt),
+          ),
         ),
       ),
     ),
@@ -90,8 +93,8 @@ module _ (A B E : RattleType) where
           let made : (Log.the_row (param 0 A) (param 1 B) (param 2 E)).Denot =
           record {
             of = record {};
-            items = stamp a.1.0.now a.1.1.0.now a.1.1.1.0.now
-                a.1.1.1.1.0.now ∷ a.0.now.items;
+            items = stamp a.1.0.now a.1.1.0.now a.1.1.1.0.now a.1.1.1.1.0.now
+                a.1.1.1.1.1.0.now ∷ a.0.now.items;
           } in
           qed 𝓛 ((raw toks ⊛ ‵ (owns (types_at ended.signature.params z.0.0) a vss)) ∷ raw
           ((held z.0.0 a).requires z.1) ∷ []) ∵
@@ -100,29 +103,35 @@ module _ (A B E : RattleType) where
           fsplit ! $ fsplit ! $ feq_l ! (λ is₁. drop ! $
           fsplit ! $ fsplit ! $ feq_l ! (λ is₂. drop ! $
           fsplit ! $ fsplit ! $ feq_l ! (λ is₃. drop ! $
-          fsplit ! $ fsplit ! $ feq_l ! (λ is₄. drop ! $ drop ! $
+          fsplit ! $ fsplit ! $ feq_l ! (λ is₄. drop ! $
+          fsplit ! $ fsplit ! $ feq_l ! (λ is₅. drop ! $ drop ! $
           let p = vptr a.0.ref_ptr.0 a.0.ref_ptr.1 in
           let q = vptr a.1.0.ref_ptr.0 a.1.0.ref_ptr.1 in
           let r = vptr a.1.1.0.ref_ptr.0 a.1.1.0.ref_ptr.1 in
           let s = vptr a.1.1.1.0.ref_ptr.0 a.1.1.1.0.ref_ptr.1 in
           let t = vptr a.1.1.1.1.0.ref_ptr.0 a.1.1.1.1.0.ref_ptr.1 in
+          let u = vptr a.1.1.1.1.1.0.ref_ptr.0 a.1.1.1.1.1.0.ref_ptr.1 in
           regoal ! (λ (us : List Val). prop (WpFn 𝓤 H C Λ function
-          (us ++ (vss.1.0 ++ (vss.1.1.0 ++ (vss.1.1.1.0 ++ (vss.1.1.1.1.0 ++ []))))) Post)) is₀
-          refl $
+          (us ++ (vss.1.0 ++ (vss.1.1.0 ++ (vss.1.1.1.0 ++ (vss.1.1.1.1.0
+          ++ (vss.1.1.1.1.1.0 ++ [])))))) Post)) is₀ refl $
           regoal ! (λ (us : List Val). prop (WpFn 𝓤 H C Λ function
-          ((p ∷ []) ++ (us ++ (vss.1.1.0 ++ (vss.1.1.1.0 ++ (vss.1.1.1.1.0 ++ []))))) Post)) is₁
-          refl $
+          ((p ∷ []) ++ (us ++ (vss.1.1.0 ++ (vss.1.1.1.0 ++ (vss.1.1.1.1.0
+          ++ (vss.1.1.1.1.1.0 ++ [])))))) Post)) is₁ refl $
           regoal ! (λ (us : List Val). prop (WpFn 𝓤 H C Λ function
-          ((p ∷ []) ++ ((q ∷ []) ++ (us ++ (vss.1.1.1.0 ++ (vss.1.1.1.1.0 ++ []))))) Post)) is₂
-          refl $
+          ((p ∷ []) ++ ((q ∷ []) ++ (us ++ (vss.1.1.1.0 ++ (vss.1.1.1.1.0
+          ++ (vss.1.1.1.1.1.0 ++ [])))))) Post)) is₂ refl $
           regoal ! (λ (us : List Val). prop (WpFn 𝓤 H C Λ function
-          ((p ∷ []) ++ ((q ∷ []) ++ ((r ∷ []) ++ (us ++ (vss.1.1.1.1.0 ++ []))))) Post)) is₃
-          refl $
+          ((p ∷ []) ++ ((q ∷ []) ++ ((r ∷ []) ++ (us ++ (vss.1.1.1.1.0
+          ++ (vss.1.1.1.1.1.0 ++ [])))))) Post)) is₃ refl $
           regoal ! (λ (us : List Val). prop (WpFn 𝓤 H C Λ function
-          ((p ∷ []) ++ ((q ∷ []) ++ ((r ∷ []) ++ ((s ∷ []) ++ (us ++ []))))) Post)) is₄ refl $
-          enter ! C Λ function (p ∷ q ∷ r ∷ s ∷ t ∷ []) Post $
+          ((p ∷ []) ++ ((q ∷ []) ++ ((r ∷ []) ++ ((s ∷ []) ++ (us
+          ++ (vss.1.1.1.1.1.0 ++ [])))))) Post)) is₄ refl $
+          regoal ! (λ (us : List Val). prop (WpFn 𝓤 H C Λ function
+          ((p ∷ []) ++ ((q ∷ []) ++ ((r ∷ []) ++ ((s ∷ []) ++ ((t ∷ []) ++ (us ++ [])))))) Post))
+          is₅ refl $
+          enter ! C Λ function (p ∷ q ∷ r ∷ s ∷ t ∷ u ∷ []) Post $
           alloc_all ! (λ l. pass_all ! refl
-          ((tt, tt), ((tt, tt), ((tt, tt), ((tt, tt), ((tt, tt), tt))))) $
+          ((tt, tt), ((tt, tt), ((tt, tt), ((tt, tt), ((tt, tt), ((tt, tt), tt)))))) $
           sets ! (agg ! (no_more !)) refl (tt, tt) $
           sets ! (agg ! (and_then ! (get ! refl) (no_more !))) refl (tt, (tt, tt)) $
           nothing ! $ owned ! (Mark.the_row pair) (Is (Mark.the_row pair))
@@ -130,29 +139,35 @@ module _ (A B E : RattleType) where
           one_made ! (Mark.the_row pair) (record {}) none $ fjoin ! $
           returns ! (look_at ! 0 refl) $ free_all ! refl $
           suffices ! _ (ends_at 𝓛 ended stayed held z (one none) made
-          (tt, (tt, (tt, (tt, (tt, tt))))) (tt, (tt, (tt, (tt, (tt, tt)))))) $ says ! refl $
+          (tt, (tt, (tt, (tt, (tt, (tt, tt)))))) (tt, (tt, (tt, (tt, (tt, (tt, tt))))))) $
+          says ! refl $
           nothing ! $ nothing ! $ fjoin ! $ nothing ! $ fjoin ! $ nothing ! $ fjoin ! $
-          nothing ! $ fjoin ! $ nothing ! $ fjoin ! $ move ! (2 ∷ 0 ∷ 1 ∷ []) $ done !))))))
+          nothing ! $ fjoin ! $ nothing ! $ fjoin ! $ nothing ! $ fjoin ! $
+          move ! (2 ∷ 0 ∷ 1 ∷ []) $ done !)))))))
 
     meets : (𝓣 : Tables 𝓤 H) → Meets 𝓛 ended.signature (WpFn 𝓤 H 𝓣.C 𝓣.Λ function)
         (closing 𝓛 ended held)
     meets 𝓣 =
         walk_Meets 𝓛 ended stayed (
-          Goes-dropped 𝓛 8 (RefOf (0 ∷ []) tt (plain
+          Goes-dropped 𝓛 9 (RefOf (0 ∷ []) tt (plain
               (λ _. Log.the_row (param 0 A) (param 1 B) (param 2 E))) (λ _. tt)) yes
               (λ κs x f. refl),
           (
-            Goes-dropped 𝓛 8 (RefOf (1 ∷ []) tt (plain (λ _. u64)) (λ _. tt)) yes (λ κs x f. refl),
+            Goes-dropped 𝓛 9 (RefOf (1 ∷ []) tt (plain (λ _. u64)) (λ _. tt)) yes (λ κs x f. refl),
             (
-              Goes-dropped 𝓛 8 (RefOf (2 ∷ []) tt (plain (λ _. param 0 A)) (λ _. tt)) yes
+              Goes-dropped 𝓛 9 (RefOf (2 ∷ []) tt (plain (λ _. u64)) (λ _. tt)) yes
                   (λ κs x f. refl),
               (
-                Goes-dropped 𝓛 8 (RefOf (3 ∷ []) tt (plain (λ _. param 1 B)) (λ _. tt)) yes
+                Goes-dropped 𝓛 9 (RefOf (3 ∷ []) tt (plain (λ _. param 0 A)) (λ _. tt)) yes
                     (λ κs x f. refl),
                 (
-                  Goes-dropped 𝓛 8 (RefOf (4 ∷ []) tt (plain (λ _. param 2 E)) (λ _. tt)) yes
+                  Goes-dropped 𝓛 9 (RefOf (4 ∷ []) tt (plain (λ _. param 1 B)) (λ _. tt)) yes
                       (λ κs x f. refl),
-                  tt,
+                  (
+                    Goes-dropped 𝓛 9 (RefOf (5 ∷ []) tt (plain (λ _. param 2 E)) (λ _. tt)) yes
+                        (λ κs x f. refl),
+                    tt,
+                  ),
                 ),
               ),
             ),
