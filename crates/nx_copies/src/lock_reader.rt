@@ -223,7 +223,8 @@ impl LockReader {
         ensures as_new { (first : Role) (words : ℕ → ℕ) → ReadsLock self.new first words 0 }
         ensures text { self.new.finder.text ≡ self.old.finder.text }
     {
-        self.printer = LockPrinter::new();
+        let fresh = LockPrinter::new();
+        self.printer = fresh;
         self.finder.restart();
     }
 }

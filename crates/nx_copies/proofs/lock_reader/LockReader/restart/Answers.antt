@@ -8,4 +8,4 @@ returns-clause-none c first words n reads none =
     none reads.finder.copy
 
 pub returns-clause-as_new : goal.returns-clause-as_new
-returns-clause-as_new c = fresh_reads c.new-self-inside.ensures c.restart.ensures.as_new
+returns-clause-as_new c = fresh_reads c.new-fresh.ensures c.restart.ensures.as_new
