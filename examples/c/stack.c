@@ -16,7 +16,7 @@ int wait(void);
 /* So many bytes below the caller are painted, and a deeper call counts as one of so many. A machine
  * has more of stack. */
 #ifndef PAINTED
-#define PAINTED 32768
+#define PAINTED 65536
 #endif
 #define PAINT 0xa5
 #define PAINT_OF_EIGHT 0xa5a5a5a5a5a5a5a5u
