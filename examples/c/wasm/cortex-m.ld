@@ -5,7 +5,7 @@ MEMORY {
     ram (rwx) : ORIGIN = 0x20000000, LENGTH = 512K
 }
 ENTRY(reset)
-stack_size = 4K;
+stack_size = DEFINED(stack_size) ? stack_size : 4K;
 SECTIONS {
     .text : { KEEP(*(.vectors)) *(.text* .rodata*) } > flash
     .ARM.exidx : { *(.ARM.exidx*) } > flash
