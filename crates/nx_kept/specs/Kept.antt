@@ -1,5 +1,5 @@
 -- What the bytes of a kept log stand for.
-use Rattle.std.specs.Prelude.{◌≡◌, ◌≢◌, ◌⊎◌, ℕ, ◌+◌, ◌<◌, ◌≤◌, List, [], ◌∷◌, ◌++◌, length, take, ◌==◌, count_by}
+use Rattle.std.specs.Prelude.{◌≡◌, ◌≢◌, ◌⊎◌, ℕ, ◌+◌, ◌<◌, ◌≤◌, List, [], ◌∷◌, ◌++◌, length, take, ◌==◌, count_by, Option, None, Some}
 
 -- the gate that is closed: a space
 abbrev pub closed_gate : ℕ
@@ -15,6 +15,11 @@ line_feed = 10
 -- the line on which a byte behind these stands, from 1
 abbrev pub line_behind : List ℕ → ℕ
 line_behind bytes = count_by (λ byte. byte == line_feed) bytes + 1
+
+-- the first byte, where there is one
+abbrev pub first_byte : List ℕ → Option ℕ
+first_byte [] = None
+first_byte (byte ∷ bytes) = Some byte
 
 module _ (is_record : List ℕ → Type 0) where
   -- the records in order, each behind a gate that isn't closed

@@ -70,4 +70,4 @@ abbrev pub HasCause : {D : Type 0}
 HasCause faults to_read to_write Memory old new = new ≡ old
 HasCause faults to_read to_write Read old new = FailedOnce (faults old) (faults new) (to_read new)
 HasCause faults to_read to_write Disk old new = FailedOnce (faults old) (faults new) (to_write new)
-HasCause faults to_read to_write (Damaged line) old new = faults new ≡ faults old
+HasCause faults to_read to_write (Damaged line first) old new = faults new ≡ faults old

@@ -13,9 +13,9 @@ pub enum OpenFault {
     /// The file can't be written, cut, or brought to the disk.
     #[error("the kept log can't be written")]
     Disk,
-    /// The file is no kept log. Lines count from 1.
+    /// The file is no kept log. Lines count from 1; `first` is the first byte of the file.
     #[error("the kept log is damaged at line {line}")]
-    Damaged { line: u64 },
+    Damaged { line: u64, first: Option<u8> },
     /// Memory ran out, before any call of the disk.
     #[error("out of memory")]
     Memory,

@@ -1,6 +1,6 @@
 //! A log that says at any moment which records it keeps.
 
-ghost use Rattle.std.specs.Prelude.{◌≡◌, ◌≢◌, ◌⊎◌, ◌+◌, ◌<◌, ◌≤◌, ◌^◌, List, [], ◌∷◌, ◌++◌, ℕ, length, IfOk, IfErr, OnErr, OnOk};
+ghost use Rattle.std.specs.Prelude.{◌≡◌, ◌≢◌, ◌⊎◌, ◌+◌, ◌<◌, ◌≤◌, ◌^◌, List, [], ◌∷◌, ◌++◌, ℕ, length, IfOk, IfErr, OnErr, OnOk, Option};
 
 use crate::disk::{DiskFailed, DiskFile};
 use crate::fault::OpenFault;
@@ -28,7 +28,7 @@ pub struct KeptLog<D, G> {
 
 impl<D: DiskFile, G: Grammar> KeptLog<D, G> {
     ghost use Rattle.nx_kept.specs.Disk.{LeavesOnly, OnlyReads, TellsFaults};
-    ghost use Rattle.nx_kept.specs.Kept.{open_gate, BeginsWith, IsBehindOpenGates, IsDamaged, IsKeptLog, StandsFor, WithOrWithout};
+    ghost use Rattle.nx_kept.specs.Kept.{first_byte, open_gate, BeginsWith, IsBehindOpenGates, IsDamaged, IsKeptLog, StandsFor, WithOrWithout};
     ghost use Rattle.nx_kept.specs.Log.{IsAtRest, Keeps};
     ghost use Rattle.nx_kept.specs.Taker.{TookAll, TookOnly, TookSome};
     ghost use Rattle.nx_kept.specs.Open.{HasCause, KeepsEither, KeepsFront, KeepsRecords, Opens, SyncsFirst, SyncsFirstOrReads};
@@ -107,9 +107,14 @@ impl<D: DiskFile, G: Grammar> KeptLog<D, G> {
             (D.left_since start) records device e.1) }
 
         // A file that is no kept log is refused at the line of the damage, and is only read.
-        ensures damaged { IfErr result (λ e. (start : List ℕ) (line : ℕ) → D.explains start e.1 →
-            e.0 ≡ OpenFault.Damaged line →
+        ensures damaged { IfErr result (λ e. (start : List ℕ) (line : ℕ) (first : Option ℕ) →
+            D.explains start e.1 → e.0 ≡ OpenFault.Damaged line first →
             IsDamaged G.is_record G.LONGEST line (D.seen start device)) }
+
+        // It is told what its first byte is.
+        ensures first { IfErr result (λ e. (start : List ℕ) (line : ℕ) (first : Option ℕ) →
+            D.explains start e.1 → e.0 ≡ OpenFault.Damaged line first →
+            first ≡ first_byte (D.seen start device)) }
         ensures only_read_err { IfErr result (λ e. (start : List ℕ) → D.explains start e.1 →
             (IsKeptLog G.is_record G.LONGEST (D.seen start device) → ⊥) →
             OnlyReads (D.seen start) (D.may_leave start) D.moment (D.left_since start) device e.1) }

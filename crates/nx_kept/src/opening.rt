@@ -1,8 +1,8 @@
 //! A kept log is read, and its end is put right.
 
-ghost use Rattle.std.specs.Prelude.{◌≡◌, ◌≢◌, ◌⊎◌, ◌+◌, ◌<◌, ◌≤◌, ◌^◌, [], ◌∷◌, ◌++◌, List, ℕ, length, take, IfOk, IfErr, IsErrOf, OnErr, OnOk};
+ghost use Rattle.std.specs.Prelude.{◌≡◌, ◌≢◌, ◌⊎◌, ◌+◌, ◌<◌, ◌≤◌, ◌^◌, [], ◌∷◌, ◌++◌, List, ℕ, length, take, IfOk, IfErr, IsErrOf, OnErr, OnOk, Option};
 ghost use Rattle.nx_kept.specs.Disk.{LeavesOnly, Only, OnlyReads, TellsFaults};
-ghost use Rattle.nx_kept.specs.Kept.{closed_gate, IsDamaged, IsKeptLog, StandsFor};
+ghost use Rattle.nx_kept.specs.Kept.{closed_gate, first_byte, IsDamaged, IsKeptLog, StandsFor};
 ghost use Rattle.nx_kept.specs.Open.{HasCause, KeepsFront, SyncsFirst, SyncsFirstOrReads};
 ghost use Rattle.nx_kept.specs.Taker.{TookAll, TookOnly, TookSome};
 ghost use Rattle.nx_kept.specs.private.Scan.{IsCutThere, Settles};
@@ -78,9 +78,12 @@ pub(crate) fn settle<D: DiskFile, G: Grammar, T: RecordTaker>(
         (stands : StandsFor G.is_record G.LONGEST records (D.seen start device.old)) →
         KeepsFront (D.may_leave start) D.moment (D.left_since start) stands.front device.old
         device.new }
-    ensures damaged { (start : List ℕ) (line : ℕ) → D.explains start device.new →
-        IsErrOf result (OpenFault.Damaged line) →
+    ensures damaged { (start : List ℕ) (line : ℕ) (first : Option ℕ) → D.explains start device.new →
+        IsErrOf result (OpenFault.Damaged line first) →
         IsDamaged G.is_record G.LONGEST line (D.seen start device.old) }
+    ensures first { (start : List ℕ) (line : ℕ) (first : Option ℕ) → D.explains start device.new →
+        IsErrOf result (OpenFault.Damaged line first) →
+        first ≡ first_byte (D.seen start device.old) }
     ensures only_read_err { (start : List ℕ) → D.explains start device.new →
         (IsKeptLog G.is_record G.LONGEST (D.seen start device.old) → ⊥) →
         OnlyReads (D.seen start) (D.may_leave start) D.moment (D.left_since start) device.old

@@ -1,8 +1,8 @@
 //! A kept log is read gate by gate.
 
-ghost use Rattle.std.specs.Prelude.{◌≡◌, ◌≢◌, ◌↔◌, [], ◌∷◌, ◌+◌, ◌<◌, ◌≤◌, ◌^◌, ◌==◌, List, ℕ, length, take, IfOk, IfErr, IsErrOf, IsTrue, OnErr, count_by};
+ghost use Rattle.std.specs.Prelude.{◌≡◌, ◌≢◌, ◌↔◌, [], ◌∷◌, ◌+◌, ◌<◌, ◌≤◌, ◌^◌, ◌==◌, List, ℕ, length, take, IfOk, IfErr, IsErrOf, IsTrue, OnErr, Option, count_by};
 ghost use Rattle.nx_kept.specs.Disk.{OnlyReads};
-ghost use Rattle.nx_kept.specs.Kept.{closed_gate, line_feed, IsDamaged};
+ghost use Rattle.nx_kept.specs.Kept.{closed_gate, first_byte, line_feed, IsDamaged};
 ghost use Rattle.nx_kept.specs.Taker as taken;
 ghost use Rattle.nx_kept.specs.Taker.{HeardOfCut, TookOnly, TookSome};
 ghost use Rattle.nx_kept.specs.private.Scan.{Ends, ReadsUpTo, Steps};
@@ -64,6 +64,21 @@ fn is_closed_gate(bytes: &[u8]) -> bool
     matches!(bytes, [CLOSED_GATE])
 }
 
+/// The first byte of a file, told by the bytes that stand there at this place: these are all that
+/// it needs at the beginning, and further on it is known.
+fn first_of_file(known: Option<u8>, place: usize, bytes: &[u8]) -> Option<u8>
+    ensures begins { place ≡ 0 → result ≡ first_byte bytes.now }
+    ensures known { 0 < place → result ≡ known }
+{
+    if place > 0 {
+        return known;
+    }
+    match bytes {
+        [first, ..] => Some(*first),
+        [] => None,
+    }
+}
+
 /// How many of the bytes are line feeds.
 fn line_feeds(bytes: &[u8]) -> usize
     ensures { result ≡ count_by (λ byte. byte == line_feed) bytes.now }
@@ -114,9 +129,12 @@ pub(crate) fn scan<D: DiskFile, G: Grammar, T: RecordTaker>(
         ReadsUpTo D.faults D.has_failed_to_read fault device.old device.new) }
     ensures within { (start : List ℕ) → D.explains start device.new →
         IsErrOf result OpenFault.Read → D.has_failed_within start device.new }
-    ensures damaged { (start : List ℕ) (line : ℕ) → D.explains start device.new →
-        IsErrOf result (OpenFault.Damaged line) →
+    ensures damaged { (start : List ℕ) (line : ℕ) (first : Option ℕ) → D.explains start device.new →
+        IsErrOf result (OpenFault.Damaged line first) →
         IsDamaged G.is_record G.LONGEST line (D.seen start device.old) }
+    ensures first { (start : List ℕ) (line : ℕ) (first : Option ℕ) → D.explains start device.new →
+        IsErrOf result (OpenFault.Damaged line first) →
+        first ≡ first_byte (D.seen start device.old) }
     ensures explained { (start : List ℕ) → D.explains start device.new
         → D.explains start device.old }
     ensures only_reads { (start : List ℕ) → OnlyReads (D.seen start) (D.may_leave start) D.moment
@@ -124,11 +142,13 @@ pub(crate) fn scan<D: DiskFile, G: Grammar, T: RecordTaker>(
 {
     let mut gate = 0;
     let mut line = 1;
+    let mut first = None;
     'gates: loop {
         let Ok(count) = device.read_at(gate, buffer) else {
             return Err(OpenFault::Read);
         };
         let bytes = &buffer[..count];
+        first = first_of_file(first, gate, bytes);
         match step_at(grammar, bytes) {
             ScanStep::Tail => {
                 let is_closed = is_closed_gate(bytes);
@@ -142,7 +162,7 @@ pub(crate) fn scan<D: DiskFile, G: Grammar, T: RecordTaker>(
             }
             ScanStep::Damaged(place) => {
                 line += line_feeds(&bytes[..place]) as u64;
-                return Err(OpenFault::Damaged { line });
+                return Err(OpenFault::Damaged { line, first });
             }
         }
     }

@@ -70,7 +70,7 @@ log_status _ = 2
 abbrev pub watch_failure_status : WatchFailure → ℕ
 watch_failure_status (Unopened file.Busy) = 2
 watch_failure_status (Unopened _) = 1
-watch_failure_status (Ended (watch.Damaged line)) = 2
+watch_failure_status (Ended (watch.Damaged line first)) = 2
 watch_failure_status (Ended (watch.Back line last given)) = 2
 watch_failure_status (Ended _) = 1
 

@@ -1,15 +1,16 @@
 -- What `navtex watch FILE MOMENT` does, with `--combine` and without it: the log is opened,
 -- watched, and handed back (this profile).
-use Rattle.std.specs.Prelude.{◌≡◌, ◌++◌, ℕ, List, [], Option, Some, None, Result, Ok, Err}
+use Rattle.std.specs.Prelude.{◌≡◌, ◌++◌, ◌==◌, Bool, true, false, ℕ, List, [], Option, Some, None, Result, Ok, Err}
 use Rattle.std.specs.Prelude.{codes, decimal, length}
 use Rattle.std.specs.Io.KnownBytes.{Consumes}
 use Rattle.clap.specs.Words.{Text}
 use Rattle.nx_fec.specs.Transfers.{CountedDevice, Devices}
 use Rattle.nx_kept.specs.Disk.{OnlyReads}
-use Rattle.nx_kept.specs.Kept.{IsDamaged, IsKeptLog}
+use Rattle.nx_kept.specs.Kept.{IsDamaged, IsKeptLog, first_byte}
 use Rattle.nx_kept.specs.declared.disk.DiskFile.{Ghosts as TellsOfDisk}
 use Rattle.nx_log.specs.Entries.{IsWholeEntry}
 use Rattle.nx_log.specs.Notices.{Notices}
+use Rattle.nx_log.specs.Reading.{bracket}
 use Rattle.nx_combine.specs.CombinedPrinting.{combined}
 use Rattle.nx_copies.specs.copies.Log.{Printing, plain}
 use Rattle.nx_copies.specs.copies.Shares.{MarkedCopy}
@@ -82,6 +83,17 @@ pub record IsUnused {F D W E : Type 0} (b : Beside F D W E) : Type 0 where
   pub unstamped : b.stamps ≡ []
   pub untold : b.faults_after ≡ b.faults
 
+-- whether a file with this first byte begins as an entry does, with its bracket: so does a log that
+-- `listen` writes, where one that a watch writes begins with a gate
+abbrev pub begins_with_entry : Option ℕ → Bool
+begins_with_entry None = false
+begins_with_entry (Some byte) = byte == bracket
+
+-- how the line ends that reports a damaged log: of one that begins with an entry it says so
+abbrev pub damage_end : Bool → List ℕ
+damage_end true = codes ": it begins with an entry, as a log of listen does\n"
+damage_end false = codes "\n"
+
 -- the line that reports a failed watch of the log of this name
 abbrev pub watch_fault_line : Text → WatchFailure → List ℕ
 watch_fault_line name (Unopened (file.Open why)) =
@@ -92,9 +104,9 @@ watch_fault_line name (Unopened file.Busy) =
 watch_fault_line name (Unopened file.Memory) = codes "navtex: out of memory\n"
 watch_fault_line name (Ended watch.Open) =
     codes "navtex: the log " ++ (name ++ codes " can't be opened\n")
-watch_fault_line name (Ended (watch.Damaged line)) =
+watch_fault_line name (Ended (watch.Damaged line first)) =
     codes "navtex: the log " ++ (name ++ (codes " is damaged at line "
-    ++ (decimal line ++ codes "\n")))
+    ++ (decimal line ++ damage_end (begins_with_entry first))))
 watch_fault_line name (Ended watch.Disk) =
     codes "navtex: the log " ++ (name ++ codes " can't be written\n")
 watch_fault_line name (Ended watch.Memory) = codes "navtex: out of memory\n"
@@ -132,10 +144,11 @@ module _ {R W F D E : Type 0} (d : Devices R W) (b : Beside F D W E) where
   -- The file was watched from this moment on, with this answer, and stands so now. Something is
   -- said for each first content that explains what it answered. Where it stood for entries, all is
   -- said of what was read, kept, written and told, by how the sendings of a message are taken;
-  -- where it was damaged, at which line. Where it was no kept log, it was refused, and nothing was
-  -- done but to read it. The disk is blamed only where it failed, and that was at a place within
-  -- the file or at its end. Whatever the file was, the stamps are the reads of the input; and it
-  -- was told on standard error what is cut, and of some lines, and nothing else.
+  -- where it was damaged, at which line, and with which byte it begins. Where it was no kept log,
+  -- it was refused, and nothing was done but to read it. The disk is blamed only where it failed,
+  -- and that was at a place within the file or at its end. Whatever the file was, the stamps are
+  -- the reads of the input; and it was told on standard error what is cut, and of some lines, and
+  -- nothing else.
   pub record WatchesFile (sendings : Sendings) (moment : ℕ) (disk disk_after : D)
       (answer : Result WatchReport WatchFault)
       : Type 0 where
@@ -143,9 +156,12 @@ module _ {R W F D E : Type 0} (d : Devices R W) (b : Beside F D W E) where
         → b.tells.explains start disk_after → StandsForEntries entries (b.tells.seen start disk)
         → AnswersWatchBy (devices_of disk disk_after start) (printing_of sendings) moment entries
         answer
-    pub damaged : (start : List ℕ) (line : ℕ) → b.tells.explains start disk_after
-        → answer ≡ Err (watch.Damaged line)
+    pub damaged : (start : List ℕ) (line : ℕ) (first : Option ℕ)
+        → b.tells.explains start disk_after → answer ≡ Err (watch.Damaged line first)
         → IsDamaged IsWholeEntry longest_entry line (b.tells.seen start disk)
+    pub first : (start : List ℕ) (line : ℕ) (first : Option ℕ)
+        → b.tells.explains start disk_after → answer ≡ Err (watch.Damaged line first)
+        → first ≡ first_byte (b.tells.seen start disk)
     pub foreign : (start : List ℕ) → b.tells.explains start disk_after
         → (IsKeptLog IsWholeEntry longest_entry (b.tells.seen start disk) → ⊥)
         → OnlyReads (b.tells.seen start) (b.tells.may_leave start) b.tells.moment

@@ -5,6 +5,7 @@ ghost use Rattle.nx_fec.specs.Transfers.{devices};
 ghost use Rattle.nx_disk.specs.declared.file.FileFault.TheVariants.{Open};
 ghost use Rattle.nx_program.specs.Status.{watch_failure_status};
 ghost use Rattle.nx_program.specs.declared.watch_command.WatchFailure.TheVariants.{Unopened, Ended};
+ghost use Rattle.nx_program.specs.WatchCommand as spec;
 ghost use Rattle.nx_program.specs.WatchCommand.{WatchesLog, beside, watch_fault_line, watch_outcome};
 ghost use Rattle.nx_watch.specs.LineRun.{HasTold};
 ghost use Rattle.nx_watch.specs.Stamps.{IsFresh, counted_of, stamps_of};
@@ -193,15 +194,37 @@ fn tell_of_end<E: Write>(why: WatchFault, log: &FileName, faults: &mut Counting<
         WatchFault::Disk => tell_of_log(b"navtex: the log ", log, b" can't be written\n", faults),
         WatchFault::Memory => write_more(b"navtex: out of memory\n", faults),
         WatchFault::Read => write_more(b"navtex: read failed\n", faults),
-        WatchFault::Damaged { line } => {
+        WatchFault::Damaged { line, first } => {
             tell_of_log(b"navtex: the log ", log, b" is damaged at line ", faults);
-            tell(b"", line, b"\n", faults);
+            tell(b"", line, b"", faults);
+            write_more(damage_end(begins_with_entry(first)), faults);
         }
         WatchFault::Back { line, last, given } => {
             tell(b"navtex: line ", line, b": moment ", faults);
             tell(b"", given, b" is before ", faults);
             tell(b"", last, b"\n", faults);
         }
+    }
+}
+
+/// Whether a file with this first byte begins with an entry, as a log of `listen` does.
+fn begins_with_entry(first: Option<u8>) -> bool
+    ensures { result ≡ spec.begins_with_entry first }
+{
+    match first {
+        Some(byte) => byte == b'[',
+        None => false,
+    }
+}
+
+/// The end of the line that tells of a damaged log.
+fn damage_end(begins_with_entry: bool) -> &'static [u8]
+    ensures { result.now ≡ spec.damage_end begins_with_entry }
+{
+    if begins_with_entry {
+        b": it begins with an entry, as a log of listen does\n"
+    } else {
+        b"\n"
     }
 }
 

@@ -383,7 +383,7 @@ module _ {D R W E : Type 0} (d : WatchDevices D R W E) where
       → Type 0
   AnswersWatchBy printing now entries (Err Open) = HasOpened entries
   AnswersWatchBy printing now entries (Err Memory) = HasOpened entries
-  AnswersWatchBy printing now entries (Err (Damaged line)) = ⊥
+  AnswersWatchBy printing now entries (Err (Damaged line first)) = ⊥
   AnswersWatchBy printing now entries (Err Disk) =
       HasOpened entries
       ⊎ AnswersStartedBy printing now (starts_at now entries) entries (Err Disk)
@@ -419,7 +419,7 @@ FailsWithin tells start old new =
 -- What a watch answers of a file that is no kept log: it is damaged at its line, or a call of the
 -- disk failed, or memory ran out.
 abbrev pub RefusesLog : List ℕ → Result WatchReport WatchFault → Type 0
-RefusesLog file (Err (Damaged line)) = IsDamaged IsWholeEntry longest_entry line file
+RefusesLog file (Err (Damaged line first)) = IsDamaged IsWholeEntry longest_entry line file
 RefusesLog file (Err Open) = ⊤
 RefusesLog file (Err Disk) = ⊤
 RefusesLog file (Err Memory) = ⊤

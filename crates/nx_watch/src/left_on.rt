@@ -1,9 +1,9 @@
 //! A receiver that is left on.
 
-ghost use Rattle.std.specs.Prelude.{◌≡◌, ℕ, List, Err};
+ghost use Rattle.std.specs.Prelude.{◌≡◌, ℕ, List, Option, Err};
 ghost use Rattle.nx_fec.specs.Transfers.{devices};
 ghost use Rattle.nx_kept.specs.Disk.{OnlyReads};
-ghost use Rattle.nx_kept.specs.Kept.{IsDamaged, IsKeptLog};
+ghost use Rattle.nx_kept.specs.Kept.{IsDamaged, IsKeptLog, first_byte};
 ghost use Rattle.nx_log.specs.Entries.{IsWholeEntry};
 ghost use Rattle.nx_copies.specs.copies.Shares.{MarkedCopy};
 ghost use Rattle.nx_watch.specs.Watch.{AnswersWatch, AnswersWatchBy, FailsWithin, HasCause, PrintsLoggable, RefusesLog, StandsForEntries, longest_entry};
@@ -80,9 +80,13 @@ pub fn watch<D: DiskFile + Drop, R: Read, W: Write, F: Write>(
 
     // A file that is no kept log is refused: at the line of the damage, or since the disk failed or
     // memory ran out. It is only read, and nothing is read of the input.
-    ensures damaged { (start : List ℕ) (line : ℕ) → D.explains start result.1
-        → result.0 ≡ Err (DamagedAt line)
+    ensures damaged { (start : List ℕ) (line : ℕ) (first : Option ℕ) → D.explains start result.1
+        → result.0 ≡ Err (DamagedAt line first)
         → IsDamaged IsWholeEntry longest_entry line (D.seen start device) }
+
+    // It is told what its first byte is.
+    ensures first { (start : List ℕ) (line : ℕ) (first : Option ℕ) → D.explains start result.1
+        → result.0 ≡ Err (DamagedAt line first) → first ≡ first_byte (D.seen start device) }
     ensures refused { (start : List ℕ) → D.explains start result.1
         → (IsKeptLog IsWholeEntry longest_entry (D.seen start device) → ⊥)
         → RefusesLog (D.seen start device) result.0 }
@@ -143,9 +147,13 @@ pub fn watch_with<C: ChannelReceiver, D: DiskFile + Drop, R: Read, W: Write, F: 
 
     // A file that is no kept log is refused: at the line of the damage, or since the disk failed or
     // memory ran out. It is only read, and nothing is read of the input.
-    ensures damaged { (start : List ℕ) (line : ℕ) → D.explains start result.1
-        → result.0 ≡ Err (DamagedAt line)
+    ensures damaged { (start : List ℕ) (line : ℕ) (first : Option ℕ) → D.explains start result.1
+        → result.0 ≡ Err (DamagedAt line first)
         → IsDamaged IsWholeEntry longest_entry line (D.seen start device) }
+
+    // It is told what its first byte is.
+    ensures first { (start : List ℕ) (line : ℕ) (first : Option ℕ) → D.explains start result.1
+        → result.0 ≡ Err (DamagedAt line first) → first ≡ first_byte (D.seen start device) }
     ensures refused { (start : List ℕ) → D.explains start result.1
         → (IsKeptLog IsWholeEntry longest_entry (D.seen start device) → ⊥)
         → RefusesLog (D.seen start device) result.0 }
@@ -202,7 +210,7 @@ fn fault_of(fault: OpenFault) -> WatchFault
     match fault {
         OpenFault::Read => WatchFault::Open,
         OpenFault::Disk => WatchFault::Disk,
-        OpenFault::Damaged { line } => WatchFault::Damaged { line },
+        OpenFault::Damaged { line, first } => WatchFault::Damaged { line, first },
         OpenFault::Memory => WatchFault::Memory,
     }
 }

@@ -8,10 +8,10 @@ pub enum WatchFault {
     /// The kept log can't be read. Nothing was read of the input.
     #[error("the kept log can't be read")]
     Open,
-    /// The file is no kept log. Lines count from 1. It isn't touched, and nothing was read of the
-    /// input.
+    /// The file is no kept log. Lines count from 1, and `first` is the first byte of the file, if
+    /// there is one. It isn't touched, and nothing was read of the input.
     #[error("the kept log is damaged at line {line}")]
-    Damaged { line: u64 },
+    Damaged { line: u64, first: Option<u8> },
     /// The kept log can't be written, cut or brought to the disk.
     #[error("the kept log can't be written")]
     Disk,

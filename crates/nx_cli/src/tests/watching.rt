@@ -155,6 +155,24 @@ fn kept_damaged(rt: HostRuntime) {
     );
 }
 
+// A log of `listen` begins with an entry, and is told for what it is.
+#[test]
+fn kept_foreign(rt: HostRuntime) {
+    let foreign = b"[EA01 2025-01-01 00:40:00 full 0/5]\nTEST\n\n";
+    let told = "navtex: the log x.log is damaged at line 1: it begins with an entry, \
+        as a log of listen does\n";
+    let input = AIR_FILE_OF_EA01;
+    expect_kept(
+        &rt,
+        rt.alloc(),
+        "kept-foreign",
+        foreign,
+        input,
+        (2, told, b""),
+        foreign,
+    );
+}
+
 // Ten bytes stand behind the space, which is on line 5.
 #[test]
 fn kept_torn(rt: HostRuntime) {

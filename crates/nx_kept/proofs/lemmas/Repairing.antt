@@ -217,6 +217,6 @@ pub read_cause : {D : Type 0} → (faults : D → ℕ) (to_read to_write : D →
     → HasCause faults to_read to_write fault old new
 read_cause faults to_read to_write Read old mid new same failed =
     record { once = failed.once ∙ ap (λ (n : ℕ). suc n) same; last = failed.last }
-read_cause faults to_read to_write (Damaged line) old mid new same none = none ∙ same
+read_cause faults to_read to_write (Damaged line first) old mid new same none = none ∙ same
 read_cause faults to_read to_write Disk old mid new same never = absurd never
 read_cause faults to_read to_write Memory old mid new same never = absurd never

@@ -1,7 +1,7 @@
 -- How far a log has been read.
-use Rattle.std.proofs.Common.{◌≡◌, ◌↔◌, Bool, IsTrue, ℕ, suc, ◌+◌, ◌<◌, ◌≤◌, List, [], ◌∷◌, ◌++◌, length, take, drop, refl, sym, ◌∙◌, ap, subst, arith, append_assoc, length-append, length-take, count_by, ◌==◌}
+use Rattle.std.proofs.Common.{◌≡◌, ◌↔◌, Bool, IsTrue, ℕ, Option, zero, suc, ◌+◌, ◌<◌, ◌≤◌, List, [], ◌∷◌, ◌++◌, length, take, drop, refl, sym, ◌∙◌, ap, subst, arith, append_assoc, length-append, length-take, count_by, ◌==◌}
 use Rattle.std.proofs.lemmas.List.{drop_at, drop-take, take_all, take_at, take-take}
-use Rattle.nx_kept.specs.Kept.{closed_gate, line_feed, line_behind, IsTail, IsBehindOpenGates, IsDamaged, IsDamagedBehind}
+use Rattle.nx_kept.specs.Kept.{closed_gate, first_byte, line_feed, line_behind, IsTail, IsBehindOpenGates, IsDamaged, IsDamagedBehind}
 use Rattle.nx_kept.specs.Taker.{HeardOfCut, Took, TookOnly, TookSome, cut_of}
 use Rattle.nx_kept.specs.private.Scan.{Ends, IsAtRecord}
 use Rattle.nx_kept.proofs.lemmas.Pieces.{count_by-append, take_past}
@@ -32,6 +32,22 @@ nothing_heard takes hears old new some = record {
   bytes = [];
   heard = record { nothing = λ e. refl; heard = λ some. absurd (some refl) };
 }
+
+first_taken : (n : ℕ) (file : List ℕ) → first_byte (take (suc n) file) ≡ first_byte file
+first_taken n [] = refl
+first_taken n (byte ∷ file) = refl
+
+-- the first byte of a file, by what was read of it
+pub first_known : (file bytes : List ℕ) (gate size : ℕ) (known now : Option ℕ)
+    → (gate ≡ 0 → now ≡ first_byte bytes) → (0 < gate → now ≡ known)
+    → bytes ≡ take (size + 3) (drop gate file) → (0 < gate → known ≡ first_byte file)
+    → now ≡ first_byte file
+first_known file bytes zero size known now begins later shown was =
+    let next : size + 3 ≡ suc (size + 2) = omega arith in
+    begins refl ∙ ap (λ (l : List ℕ). first_byte l) (shown ∙ ap (λ (n : ℕ). take n file) next)
+    ∙ first_taken (size + 2) file
+first_known file bytes (suc gate) size known now begins later shown was =
+    later (omega arith) ∙ was (omega arith)
 
 -- the gate and the record at the front
 first_of : (gate n : ℕ) (first rest : List ℕ) → n ≡ length first

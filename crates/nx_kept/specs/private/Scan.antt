@@ -57,6 +57,6 @@ pub record Settles {D T : Type 0} (is_record : List ℕ → Type 0) (longest : �
 abbrev pub ReadsUpTo : {D : Type 0} → (faults : D → ℕ) (has_failed_to_read : D → Type 0) → OpenFault
     → D → D → Type 0
 ReadsUpTo faults to_read Read old new = FailedOnce (faults old) (faults new) (to_read new)
-ReadsUpTo faults to_read (DamagedAt line) old new = faults new ≡ faults old
+ReadsUpTo faults to_read (DamagedAt line first) old new = faults new ≡ faults old
 ReadsUpTo faults to_read Disk old new = ⊥
 ReadsUpTo faults to_read Memory old new = ⊥

@@ -176,13 +176,17 @@ fn a_damaged_log_is_refused(rt: HostRuntime) {
         damaged[37] = 0;
     }
     let first = sent(&rt, alloc, EA01, FIRST);
-    let cases: [(&str, &[u8], u64); 2] = [
-        ("kept-damaged", &damaged, 3),
-        ("kept-foreign", LOG_OF_EA01, 1),
+    let cases: [(&str, &[u8], u64, u8); 2] = [
+        ("kept-damaged", &damaged, 3, b'\n'),
+        ("kept-foreign", LOG_OF_EA01, 1, b'['),
     ];
-    for (row, file, line) in cases {
+    for (row, file, line, byte) in cases {
         let seen = watch_file(alloc, file_of(&rt, alloc, file), FIRST, &first);
-        assert_eq!(&rt; seen.answer, Err(WatchFault::Damaged { line }), "{row}");
+        let fault = WatchFault::Damaged {
+            line,
+            first: Some(byte),
+        };
+        assert_eq!(&rt; seen.answer, Err(fault), "{row}");
         expect_text(&rt, row, seen.file.bytes(), file);
         expect_text(&rt, row, &seen.told, b"");
     }

@@ -21,5 +21,5 @@ answered (Err fault) put = Err fault
 abbrev pub fault_answered : OpenFault → WatchFault
 fault_answered opening.Read = Open
 fault_answered opening.Disk = Disk
-fault_answered (opening.Damaged line) = Damaged line
+fault_answered (opening.Damaged line first) = Damaged line first
 fault_answered opening.Memory = Memory

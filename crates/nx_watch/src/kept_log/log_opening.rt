@@ -1,8 +1,8 @@
 //! A log is opened: what it remembers is taken, and what is cut of it is told.
 
-ghost use Rattle.std.specs.Prelude.{◌≡◌, ◌⊎◌, List, ℕ, IfErr, IfOk};
+ghost use Rattle.std.specs.Prelude.{◌≡◌, ◌⊎◌, List, ℕ, IfErr, IfOk, Option};
 ghost use Rattle.nx_kept.specs.Disk.{OnlyReads};
-ghost use Rattle.nx_kept.specs.Kept.{IsDamaged, IsKeptLog, StandsFor};
+ghost use Rattle.nx_kept.specs.Kept.{IsDamaged, IsKeptLog, StandsFor, first_byte};
 ghost use Rattle.nx_kept.specs.Open.{HasCause, KeepsRecords};
 ghost use Rattle.nx_kept.specs.declared.fault.OpenFault.TheVariants as why;
 ghost use Rattle.nx_log.specs.Entries.{IsWholeEntry};
@@ -53,9 +53,12 @@ impl<'a, F: Write> LogOpening<'a, F> {
             StandsFor IsWholeEntry longest_entry records (D.seen start device) →
             KeepsRecords IsWholeEntry longest_entry (D.may_leave start) D.moment
             (D.left_since start) records device e.1) }
-        ensures damaged { IfErr result (λ e. (start : List ℕ) (line : ℕ) → D.explains start e.1 →
-            e.0 ≡ why.Damaged line →
+        ensures damaged { IfErr result (λ e. (start : List ℕ) (line : ℕ) (first : Option ℕ) →
+            D.explains start e.1 → e.0 ≡ why.Damaged line first →
             IsDamaged IsWholeEntry longest_entry line (D.seen start device)) }
+        ensures first { IfErr result (λ e. (start : List ℕ) (line : ℕ) (first : Option ℕ) →
+            D.explains start e.1 → e.0 ≡ why.Damaged line first →
+            first ≡ first_byte (D.seen start device)) }
         ensures only_read_err { IfErr result (λ e. (start : List ℕ) → D.explains start e.1 →
             (IsKeptLog IsWholeEntry longest_entry (D.seen start device) → ⊥) →
             OnlyReads (D.seen start) (D.may_leave start) D.moment (D.left_since start) device e.1) }
@@ -100,8 +103,12 @@ pub(crate) fn open_log<D: DiskFile, F: Write>(
         StandsFor IsWholeEntry longest_entry records (D.seen start device) →
         KeepsRecords IsWholeEntry longest_entry (D.may_leave start) D.moment (D.left_since start)
         records device e.1) }
-    ensures damaged { IfErr result (λ e. (start : List ℕ) (line : ℕ) → D.explains start e.1 →
-        e.0 ≡ why.Damaged line → IsDamaged IsWholeEntry longest_entry line (D.seen start device)) }
+    ensures damaged { IfErr result (λ e. (start : List ℕ) (line : ℕ) (first : Option ℕ) →
+        D.explains start e.1 → e.0 ≡ why.Damaged line first →
+        IsDamaged IsWholeEntry longest_entry line (D.seen start device)) }
+    ensures first { IfErr result (λ e. (start : List ℕ) (line : ℕ) (first : Option ℕ) →
+        D.explains start e.1 → e.0 ≡ why.Damaged line first →
+        first ≡ first_byte (D.seen start device)) }
     ensures only_read_err { IfErr result (λ e. (start : List ℕ) → D.explains start e.1 →
         (IsKeptLog IsWholeEntry longest_entry (D.seen start device) → ⊥) →
         OnlyReads (D.seen start) (D.may_leave start) D.moment (D.left_since start) device e.1) }

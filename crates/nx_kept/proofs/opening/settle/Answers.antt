@@ -1,6 +1,6 @@
-use Rattle.std.proofs.Common.{rules, List, [], ℕ, inl, inr, refl, subst}
+use Rattle.std.proofs.Common.{rules, ◌≡◌, List, [], ℕ, inl, inr, refl, subst}
 use Rattle.std.proofs.lemmas.Result.{err_from_is_err_and}
-use Rattle.nx_kept.specs.Kept.{IsDamaged}
+use Rattle.nx_kept.specs.Kept.{IsDamaged, first_byte}
 use Rattle.nx_kept.proofs.lemmas.Calls.{file_of, sync_reads}
 use Rattle.nx_kept.proofs.lemmas.Pieces.{on_err}
 use Rattle.nx_kept.proofs.lemmas.Repairing.{read_cause, read_first, repaired}
@@ -135,12 +135,12 @@ pub returns-then-rest-clause-in_range : goal.returns-then-rest-clause-in_range
 returns-then-rest-clause-in_range g c = c.in_ok-rest.ensures.closed_in_range (search rules)
 
 pub returns-in_err-rest-clause-damaged : goal.returns-in_err-rest-clause-damaged
-returns-in_err-rest-clause-damaged g c = λ start line explains same.
+returns-in_err-rest-clause-damaged g c = λ start line first explains same.
     let p = err_from_is_err_and c.from_residual-in_err-rest.result
     c.from_residual-in_err-rest.ensures.1 in
     subst (λ (f : List ℕ). IsDamaged g.G.Grammar.is_record g.G.Grammar.LONGEST line f)
     (c.sync.ensures.seen start)
-    (c.in_err-rest.ensures.damaged start line explains (cc (p.1, p.2, same)))
+    (c.in_err-rest.ensures.damaged start line first explains (cc (p.1, p.2, same)))
 
 pub returns-in_err-rest-clause-cause : goal.returns-in_err-rest-clause-cause
 returns-in_err-rest-clause-cause g c =
@@ -346,3 +346,10 @@ returns-clause-stays g c = λ start records explains stands.
     (c.scan.ensures.only_reads start)
     (c.in_ok-rest.ensures.found start (c.repair.ensures.explained start explains))
     (c.repair.ensures.any_moment start)
+
+pub returns-in_err-rest-clause-first : goal.returns-in_err-rest-clause-first
+returns-in_err-rest-clause-first g c = λ start line first explains same.
+    let p = err_from_is_err_and c.from_residual-in_err-rest.result
+    c.from_residual-in_err-rest.ensures.1 in
+    subst (λ (f : List ℕ). first ≡ first_byte f) (c.sync.ensures.seen start)
+    (c.in_err-rest.ensures.first start line first explains (cc (p.1, p.2, same)))

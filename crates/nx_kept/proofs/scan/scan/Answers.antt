@@ -5,7 +5,7 @@ use Rattle.nx_kept.specs.Kept.{line_feed, IsDamaged}
 use Rattle.nx_kept.specs.private.Scan.{IsAtRecord}
 use Rattle.nx_kept.proofs.lemmas.Stages.{reads_on}
 use Rattle.nx_kept.proofs.lemmas.Steps.{record_fits, record_there}
-use Rattle.nx_kept.proofs.lemmas.Scanning.{nothing_heard, reached_damage, reached_end, reached_more, some_more}
+use Rattle.nx_kept.proofs.lemmas.Scanning.{first_known, nothing_heard, reached_damage, reached_end, reached_more, some_more}
 use Rattle.nx_kept.proofs.scan.scan.Goals as goal
 
 pub returns-in_default-clause-only_reads : goal.returns-in_default-clause-only_reads
@@ -143,6 +143,22 @@ gates-preserved g c =
           (inv.reached start (c.read_at.ensures.explained start explains)) shown
           (c.in-Record.ensures (drop c.gates.gate (g.D.DiskFile.seen start c.args.device.now))
           shown) fits took count;
+      first = λ start explains some.
+          let told = c.in-Ok.ensures.bytes start explains in
+          let asked : length c.gates.buffer ≡ g.G.Grammar.LONGEST + 3 =
+          omega (arith, c.requires.buffer, c.gates.auto.buffer) in
+          let shown : take c.in-Ok.count c.read_at.new.room ≡ take (g.G.Grammar.LONGEST + 3)
+          (drop c.gates.gate (g.D.DiskFile.seen start c.args.device.now)) =
+          told
+          ∙ ap (λ (n : ℕ). take n (drop c.gates.gate (g.D.DiskFile.seen start c.gates.device)))
+          asked
+          ∙ ap (λ (l : List ℕ). take (g.G.Grammar.LONGEST + 3) (drop c.gates.gate l))
+          (c.gates.invariant.reads start).same in
+          first_known (g.D.DiskFile.seen start c.args.device.now)
+          (take c.in-Ok.count c.read_at.new.room) c.gates.gate g.G.Grammar.LONGEST c.gates.first
+          c.first_of_file-first.result c.first_of_file-first.ensures.begins
+          c.first_of_file-first.ensures.known shown
+          (c.gates.invariant.first start (c.read_at.ensures.explained start explains));
       took = some_more g.T.RecordTaker.takes _ c.args.taker.now c.gates.taker c.take.new.self
           inv.took c.take.ensures;
     }
@@ -167,7 +183,7 @@ returns-in-Damaged-clause-taken g c =
     c.gates.invariant.took
 
 pub returns-in-Damaged-clause-damaged : goal.returns-in-Damaged-clause-damaged
-returns-in-Damaged-clause-damaged g c = λ start line explains same.
+returns-in-Damaged-clause-damaged g c = λ start line first explains same.
     let bytes = take c.in-Ok.count c.read_at.new.room in
     let room : length c.read_at.new.room ≡ g.G.Grammar.LONGEST + 3 =
     omega (arith, c.requires.buffer, c.gates.auto.buffer, c.read_at.auto.room) in
@@ -178,7 +194,9 @@ returns-in-Damaged-clause-damaged g c = λ start line explains same.
     omega (arith, c.requires.buffer, c.gates.auto.buffer) in
     let shown : bytes ≡ take (g.G.Grammar.LONGEST + 3)
     (drop c.gates.gate (g.D.DiskFile.seen start c.args.device.now)) =
-    told ∙ ap (λ (n : ℕ). take n (drop c.gates.gate (g.D.DiskFile.seen start c.gates.device))) asked
+    told
+    ∙ ap (λ (n : ℕ). take n (drop c.gates.gate (g.D.DiskFile.seen start c.gates.device)))
+    asked
     ∙ ap (λ (l : List ℕ). take (g.G.Grammar.LONGEST + 3) (drop c.gates.gate l))
     (c.gates.invariant.reads start).same in
     let own : bytes ≡ take (g.G.Grammar.LONGEST + 3) bytes =
@@ -213,7 +231,9 @@ returns-in-Tail-clause-found g c = λ start explains.
     omega (arith, c.requires.buffer, c.gates.auto.buffer) in
     let shown : take c.in-Ok.count c.read_at.new.room ≡ take (g.G.Grammar.LONGEST + 3)
     (drop c.gates.gate (g.D.DiskFile.seen start c.args.device.now)) =
-    told ∙ ap (λ (n : ℕ). take n (drop c.gates.gate (g.D.DiskFile.seen start c.gates.device))) asked
+    told
+    ∙ ap (λ (n : ℕ). take n (drop c.gates.gate (g.D.DiskFile.seen start c.gates.device)))
+    asked
     ∙ ap (λ (l : List ℕ). take (g.G.Grammar.LONGEST + 3) (drop c.gates.gate l))
     (c.gates.invariant.reads start).same in
     let is = c.in-Tail.ensures (drop c.gates.gate (g.D.DiskFile.seen start c.args.device.now))
@@ -224,3 +244,22 @@ returns-in-Tail-clause-found g c = λ start explains.
     (take c.in-Ok.count c.read_at.new.room) c.is_closed_gate-is_closed.result
     (c.gates.invariant.reached start (c.read_at.ensures.explained start explains)) shown is
     c.is_closed_gate-is_closed.ensures c.tell_of_cut.ensures
+
+pub returns-in-Damaged-clause-first : goal.returns-in-Damaged-clause-first
+returns-in-Damaged-clause-first g c = λ start line first explains same.
+    let told = c.in-Ok.ensures.bytes start explains in
+    let asked : length c.gates.buffer ≡ g.G.Grammar.LONGEST + 3 =
+    omega (arith, c.requires.buffer, c.gates.auto.buffer) in
+    let shown : take c.in-Ok.count c.read_at.new.room ≡ take (g.G.Grammar.LONGEST + 3)
+    (drop c.gates.gate (g.D.DiskFile.seen start c.args.device.now)) =
+    told
+    ∙ ap (λ (n : ℕ). take n (drop c.gates.gate (g.D.DiskFile.seen start c.gates.device)))
+    asked
+    ∙ ap (λ (l : List ℕ). take (g.G.Grammar.LONGEST + 3) (drop c.gates.gate l))
+    (c.gates.invariant.reads start).same in
+    let is : c.first_of_file-first.result ≡ first = cc in
+    sym is ∙ first_known (g.D.DiskFile.seen start c.args.device.now)
+    (take c.in-Ok.count c.read_at.new.room) c.gates.gate g.G.Grammar.LONGEST c.gates.first
+    c.first_of_file-first.result c.first_of_file-first.ensures.begins
+    c.first_of_file-first.ensures.known shown
+    (c.gates.invariant.first start (c.read_at.ensures.explained start explains))

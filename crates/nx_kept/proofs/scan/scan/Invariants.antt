@@ -1,5 +1,6 @@
 use Rattle.std.proofs.Common.{◌≡◌, ◌+◌, ◌-◌, ◌<◌, ◌≤◌, ◌^◌, ℕ, List}
 use Rattle.nx_kept.specs.Disk.{OnlyReads}
+use Rattle.nx_kept.specs.Kept.{first_byte}
 use Rattle.nx_kept.specs.Taker.{TookSome}
 use Rattle.nx_kept.proofs.lemmas.Scanning.{Reached}
 use Rattle.nx_kept.proofs.scan.scan.Given as goal
@@ -16,6 +17,8 @@ invariant-gates g l = record {
   reached : (start : List ℕ) → g.D.DiskFile.explains start l.device
       → Reached g.G.Grammar.is_record g.T.RecordTaker.takes (g.D.DiskFile.seen start l.fn.device)
       l.gate l.line l.fn.taker l.taker;
+  first : (start : List ℕ) → g.D.DiskFile.explains start l.device → 0 < l.gate
+      → l.first ≡ first_byte (g.D.DiskFile.seen start l.fn.device);
   took : TookSome g.T.RecordTaker.takes l.fn.taker l.taker;
 }
 

@@ -395,7 +395,7 @@ module _ {printing : Printing} {Goes : List MarkedCopy → Watch → Type 0}
           → AnswersWatchBy d printing now entries outcome → LeavesWatch
       answer-left (Err Open) h = opened-left h
       answer-left (Err Memory) h = opened-left h
-      answer-left (Err (Damaged line)) h = absurd h
+      answer-left (Err (Damaged line first)) h = absurd h
       answer-left (Err Disk) h = elim h [
         | inl o ↦ opened-left o
         | inr s ↦ started-left (Err Disk) s
@@ -425,7 +425,7 @@ module _ {printing : Printing} {Goes : List MarkedCopy → Watch → Type 0}
           → AnswersWatchBy d printing now entries outcome → TellsAllKept outcome → LeavesAtEnd
       answer-over (Err Open) h t = absurd t
       answer-over (Err Memory) h t = absurd t
-      answer-over (Err (Damaged line)) h t = absurd t
+      answer-over (Err (Damaged line first)) h t = absurd t
       answer-over (Err Disk) h t = absurd t
       answer-over (Err Read) h t = started-over (Err Read) h (λ e. cc)
       answer-over (Err (Back line last given)) h t =
@@ -491,7 +491,7 @@ module _ {printing : Printing} {Goes : List MarkedCopy → Watch → Type 0}
           → AnswersWatchBy d printing now entries outcome → LeavesSome
       answer-some (Err Open) h = opened-some h
       answer-some (Err Memory) h = opened-some h
-      answer-some (Err (Damaged line)) h = absurd h
+      answer-some (Err (Damaged line first)) h = absurd h
       answer-some (Err Disk) h = elim h [
         | inl o ↦ opened-some o
         | inr s ↦ started-some (Err Disk) s

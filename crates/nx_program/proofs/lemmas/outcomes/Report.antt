@@ -39,7 +39,7 @@ use Rattle.nx_program.specs.declared.log_arguments.ReadAs.{ReadAs}
 use Rattle.nx_program.specs.declared.log_arguments.ReadAs.TheVariants.{Kept as AsKept, Log as AsLog}
 use Rattle.nx_program.specs.Report.{Answers, IsFaultLine, IsFaultText, Reports, WritesLast, WritesOne}
 use Rattle.nx_program.specs.Status.{fault_status, status_of}
-use Rattle.nx_program.specs.WatchCommand.{Beside, IsUnused, WatchesLog, watch_fault_line}
+use Rattle.nx_program.specs.WatchCommand.{Beside, IsUnused, WatchesLog, begins_with_entry, damage_end, watch_fault_line}
 use Rattle.nx_program.specs.declared.arguments.Sendings.{Sendings}
 use Rattle.nx_program.specs.WatchCommand.{notices_between, with_faults}
 use Rattle.nx_program.specs.Arguments.{Names}
@@ -103,6 +103,10 @@ log-line : (name text : List ℕ) → EndsLine text
 log-line name text ends = navtex-line (codes "the log " ++ (name ++ text))
     (ends-behind (codes "the log ") (name ++ text) (ends-behind name text ends))
 
+damage-ends : (begins : Bool) → EndsLine (damage_end begins)
+damage-ends true = line-of (codes ": it begins with an entry, as a log of listen does")
+damage-ends false = line-of []
+
 watch-line : (name : Text) (why : WatchFailure) → IsFaultLine (watch_fault_line name why)
 watch-line name (Unopened (file.Open why)) =
     log-line name (codes " can't be opened" ++ (open_reason why ++ codes "\n"))
@@ -115,10 +119,11 @@ watch-line name (Unopened file.Busy) =
 watch-line name (Unopened file.Memory) =
     navtex-line (codes "out of memory\n") (line-of (codes "out of memory"))
 watch-line name (Ended watch.Open) = log-line name _ (line-of (codes " can't be opened"))
-watch-line name (Ended (watch.Damaged line)) =
-    log-line name (codes " is damaged at line " ++ (decimal line ++ codes "\n"))
-    (ends-behind (codes " is damaged at line ") (decimal line ++ codes "\n")
-    (ends-behind (decimal line) (codes "\n") (line-of [])))
+watch-line name (Ended (watch.Damaged line first)) =
+    let end = damage_end (begins_with_entry first) in
+    log-line name (codes " is damaged at line " ++ (decimal line ++ end))
+    (ends-behind (codes " is damaged at line ") (decimal line ++ end)
+    (ends-behind (decimal line) end (damage-ends (begins_with_entry first))))
 watch-line name (Ended watch.Disk) = log-line name _ (line-of (codes " can't be written"))
 watch-line name (Ended watch.Memory) =
     navtex-line (codes "out of memory\n") (line-of (codes "out of memory"))

@@ -1,9 +1,9 @@
-use Rattle.std.proofs.Common.{◌++◌, sym, subst}
+use Rattle.std.proofs.Common.{◌++◌, ◌∙◌, Bool, List, [], ℕ, ap, sym, subst}
 use Rattle.std.specs.Prelude.{codes, decimal}
 use Rattle.nx_watch.specs.LineRun.{HasTold}
-use Rattle.nx_program.specs.WatchCommand.{watch_fault_line}
+use Rattle.nx_program.specs.WatchCommand.{damage_end, watch_fault_line}
 use Rattle.nx_program.specs.declared.watch_command.WatchFailure.TheVariants.{Ended}
-use Rattle.nx_program.proofs.lemmas.outcomes.WatchLines.{more-told, twice-told}
+use Rattle.nx_program.proofs.lemmas.outcomes.WatchLines.{twice-told}
 use Rattle.nx_program.proofs.watch_command.tell_of_end.Goals as goal
 
 pub returns-in-Open : goal.returns-in-Open
@@ -32,13 +32,19 @@ returns-in-Read g c = λ old text told.
 
 pub returns-in-Damaged : goal.returns-in-Damaged
 returns-in-Damaged g c = λ old text told.
-    subst (λ w. HasTold old (g.E.Write.contents c.tell.new.notices.inner)
-    c.tell.new.notices.failures (text ++ watch_fault_line c.args.log.now (Ended w)))
+    let wrote = c.write_more-in-Damaged in
+    subst (λ w. HasTold old (g.E.Write.contents wrote.new.writer.inner) wrote.new.writer.failures
+    (text ++ watch_fault_line c.args.log.now (Ended w)))
     (sym c.in-Damaged.is)
-    (more-told old (g.E.Write.contents c.tell.new.notices.inner) c.tell.new.notices.failures text
+    (subst (λ (end : List ℕ). HasTold old (g.E.Write.contents wrote.new.writer.inner)
+    wrote.new.writer.failures (text ++ (codes "navtex: the log " ++ (c.args.log.now
+    ++ (codes " is damaged at line " ++ (decimal c.in-Damaged.line ++ end))))))
+    (c.damage_end.ensures ∙ ap (λ (b : Bool). damage_end b) c.begins_with_entry.ensures)
+    (twice-told old (g.E.Write.contents wrote.new.writer.inner) wrote.new.writer.failures text
     (codes "navtex: the log ") c.args.log.now (codes " is damaged at line ")
-    (decimal c.in-Damaged.line ++ codes "\n")
-    (c.tell.ensures old _ (c.tell_of_log-in-Damaged.ensures old text told)))
+    (decimal c.in-Damaged.line) [] c.damage_end.result.now
+    (wrote.ensures.written old _ (c.tell.ensures old _
+    (c.tell_of_log-in-Damaged.ensures old text told)))))
 
 pub returns-in-Back : goal.returns-in-Back
 returns-in-Back g c = λ old text told.

@@ -23,6 +23,7 @@ returns-in-Alone g c =
             c.watch.result.1 c.watch.result.0) (sym c.in-Alone.is) (record {
               watched = c.watch.ensures.watched;
               damaged = c.watch.ensures.damaged;
+              first = c.watch.ensures.first;
               foreign = λ start explained none.
                   let only = c.watch.ensures.foreign start explained none in (
                     only.0,
@@ -60,6 +61,7 @@ returns-in-Together g c =
             c.watch_combined.result.1 c.watch_combined.result.0) (sym c.in-Together.is) (record {
               watched = c.watch_combined.ensures.watched;
               damaged = c.watch_combined.ensures.damaged;
+              first = c.watch_combined.ensures.first;
               foreign = λ start explained none.
                   let only = c.watch_combined.ensures.foreign start explained none in (
                     only.0,

@@ -29,11 +29,12 @@ use Rattle.nx_watch.proofs.left_on.watch_with.Goals.{After-run_watch}
 abbrev err : WatchFault → Result WatchReport WatchFault
 err fault = Err fault
 
-apart : (line : ℕ) → err Memory ≡ err (Damaged line) → ⊥
-apart line e = cc
+apart : (line : ℕ) (first : Option ℕ) → err Memory ≡ err (Damaged line first) → ⊥
+apart line first e = cc
 
-same-fault : (fault : WatchFault) (line : ℕ) → err fault ≡ err (Damaged line) → fault ≡ Damaged line
-same-fault fault line e = cc
+same-fault : (fault : WatchFault) (line : ℕ) (first : Option ℕ)
+    → err fault ≡ err (Damaged line first) → fault ≡ Damaged line first
+same-fault fault line first e = cc
 
 -- ---- the log can't be opened
 
@@ -52,21 +53,27 @@ returns-in-Err-clause-watched g c = λ start entries ex stands.
     (stamps_of c.args.reader.now) c.requires.reader.none_made in
     rw c.fault_of.ensures
     (answers-opening _ g.C.ChannelReceiver.kind.printing c.args.moment entries fault opened
-    (λ line e. (c.in-Err.ensures.damaged start line ex e).1.not_as_they_are
+    (λ line first e. (c.in-Err.ensures.damaged start line first ex e).1.not_as_they_are
     (stands.texts, stands.stands)))
 
 pub returns-in-Err-clause-damaged : goal.returns-in-Err-clause-damaged
-returns-in-Err-clause-damaged g c = λ start line ex e.
-    c.in-Err.ensures.damaged start line ex
-    (damage-named c.in-Err.fault line (sym c.fault_of.ensures
-    ∙ same-fault c.fault_of.result line e))
+returns-in-Err-clause-damaged g c = λ start line first ex e.
+    c.in-Err.ensures.damaged start line first ex
+    (damage-named c.in-Err.fault line first (sym c.fault_of.ensures
+    ∙ same-fault c.fault_of.result line first e))
+
+pub returns-in-Err-clause-first : goal.returns-in-Err-clause-first
+returns-in-Err-clause-first g c = λ start line first ex e.
+    c.in-Err.ensures.first start line first ex
+    (damage-named c.in-Err.fault line first (sym c.fault_of.ensures
+    ∙ same-fault c.fault_of.result line first e))
 
 pub returns-in-Err-clause-refused : goal.returns-in-Err-clause-refused
 returns-in-Err-clause-refused g c = λ start ex none.
     let disk = g.D.DiskFile in
     subst (λ f. RefusesLog (disk.seen start c.args.device) (Err f)) (sym c.fault_of.ensures)
     (refuses (disk.seen start c.args.device) c.in-Err.fault
-    (λ line e. c.in-Err.ensures.damaged start line ex e))
+    (λ line first e. c.in-Err.ensures.damaged start line first ex e))
 
 pub returns-in-Err-clause-foreign : goal.returns-in-Err-clause-foreign
 returns-in-Err-clause-foreign g c = λ start ex none.
@@ -106,8 +113,12 @@ returns-in_default-clause-watched g c = λ start entries ex stands.
     rw (c.answer.ensures.well refl, c.answer.ensures.device) opened
 
 pub returns-in_default-clause-damaged : goal.returns-in_default-clause-damaged
-returns-in_default-clause-damaged g c = λ start line ex e.
-    absurd (apart line (sym (c.answer.ensures.well refl) ∙ e))
+returns-in_default-clause-damaged g c = λ start line first ex e.
+    absurd (apart line first (sym (c.answer.ensures.well refl) ∙ e))
+
+pub returns-in_default-clause-first : goal.returns-in_default-clause-first
+returns-in_default-clause-first g c = λ start line first ex e.
+    absurd (apart line first (sym (c.answer.ensures.well refl) ∙ e))
 
 pub returns-in_default-clause-refused : goal.returns-in_default-clause-refused
 returns-in_default-clause-refused g c = λ start ex none.
@@ -277,7 +288,7 @@ returns-clause-explained g c = λ start ex.
     start ex)
 
 pub returns-clause-damaged : goal.returns-clause-damaged
-returns-clause-damaged g c = λ start line ex e.
+returns-clause-damaged g c = λ start line first ex e.
     let disk = g.D.DiskFile in
     let log = c.in-Ok.log in
     let b = begins g (goal.at.returns-clause-damaged g c).After-run_watch in
@@ -297,7 +308,33 @@ returns-clause-damaged g c = λ start line ex e.
     keeps in
     absurd (not-damaged _ g.C.ChannelReceiver.kind.printing found.0 (disk.seen start c.args.device)
     c.args.moment
-    (starts_by g.C.ChannelReceiver.kind c.in-Ok-starting.listener) line
+    (starts_by g.C.ChannelReceiver.kind c.in-Ok-starting.listener) line first
+    (subst (AnswersOverBy _ g.C.ChannelReceiver.kind.printing (disk.seen start c.args.device)
+    c.args.moment
+    (starts_by g.C.ChannelReceiver.kind c.in-Ok-starting.listener) found.0) e answer))
+
+pub returns-clause-first : goal.returns-clause-first
+returns-clause-first g c = λ start line first ex e.
+    let disk = g.D.DiskFile in
+    let log = c.in-Ok.log in
+    let b = begins g (goal.at.returns-clause-first g c).After-run_watch in
+    let some = ran g (goal.at.returns-clause-first g c).After-run_watch in
+    let any = c.run_watch.ensures.runs c.args.notices.now some.0 some.2 c.requires.loggable b.0 refl
+    b.1 b.2 b.3 in
+    let opened = c.in-Ok.ensures.opened start (any.explained start ex) in
+    let o = opened in
+    let found = entries-of o.records o.front o.kept in
+    let told = o.told in
+    let run = c.run_watch.ensures.runs c.args.notices.now told.0
+    (told-first g.F.Write.contents c.args.notices.now c.open_log.new.notices told.0
+    c.requires.notices told.2) c.requires.loggable b.0 refl b.1 b.2 b.3 in
+    let keeps : Keeps (disk.seen start) (disk.may_leave start) IsWholeEntry o.records log =
+    record { front = o.front; kept = o.kept; at_rest = opened.at_rest } in
+    let answer = run.answers start (disk.seen start c.args.device) found.0 o.records told.1 found.1
+    keeps in
+    absurd (not-damaged _ g.C.ChannelReceiver.kind.printing found.0 (disk.seen start c.args.device)
+    c.args.moment
+    (starts_by g.C.ChannelReceiver.kind c.in-Ok-starting.listener) line first
     (subst (AnswersOverBy _ g.C.ChannelReceiver.kind.printing (disk.seen start c.args.device)
     c.args.moment
     (starts_by g.C.ChannelReceiver.kind c.in-Ok-starting.listener) found.0) e answer))

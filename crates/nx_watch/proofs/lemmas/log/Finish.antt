@@ -302,7 +302,7 @@ stop-cause : {D : Type 0} (disk : TellsOfDisk D) (old new : D)
 stop-cause disk old new first stop lines copies (Ok report) h well = well
 stop-cause disk old new first stop lines copies (Err fault.Read) h well = well
 stop-cause disk old new first stop lines copies (Err fault.Memory) h well = well
-stop-cause disk old new first stop lines copies (Err (fault.Damaged line)) h
+stop-cause disk old new first stop lines copies (Err (fault.Damaged line byte)) h
     well = well
 stop-cause disk old new first stop lines copies
     (Err (fault.Back line last given)) h well = well

@@ -91,11 +91,11 @@ module _ {D R W E : Type 0} (disk : TellsOfDisk D) (content : List ℕ) (old new
 
 pub answers-opening : {D R W E : Type 0} (d : WatchDevices D R W E) (printing : Printing) (now : ℕ)
     (entries : List MarkedCopy) (fault : OpenFault) → HasOpened d entries
-    → ((line : ℕ) → fault ≡ why.Damaged line → ⊥)
+    → ((line : ℕ) (first : Option ℕ) → fault ≡ why.Damaged line first → ⊥)
     → AnswersWatchBy d printing now entries (Err (fault_answered fault))
 answers-opening d printing now entries why.Read h whole = h
 answers-opening d printing now entries why.Disk h whole = inl h
-answers-opening d printing now entries (why.Damaged line) h whole = whole line refl
+answers-opening d printing now entries (why.Damaged line first) h whole = whole line first refl
 answers-opening d printing now entries why.Memory h whole = h
 
 pub cause-opening : {D : Type 0} (disk : TellsOfDisk D) (fault : OpenFault) (old new : D)
@@ -103,24 +103,25 @@ pub cause-opening : {D : Type 0} (disk : TellsOfDisk D) (fault : OpenFault) (old
     → HasCause disk (Err (fault_answered fault)) old new
 cause-opening disk why.Read old new h = h
 cause-opening disk why.Disk old new h = h
-cause-opening disk (why.Damaged line) old new h = h
+cause-opening disk (why.Damaged line first) old new h = h
 cause-opening disk why.Memory old new h = ap disk.faults h
 
 -- the answer names the damage that the opening names
-pub damage-named : (fault : OpenFault) (line : ℕ)
-    → fault_answered fault ≡ Damaged line → fault ≡ why.Damaged line
-damage-named why.Read line e = cc
-damage-named why.Disk line e = cc
-damage-named (why.Damaged other) line e = cc
-damage-named why.Memory line e = cc
+pub damage-named : (fault : OpenFault) (line : ℕ) (first : Option ℕ)
+    → fault_answered fault ≡ Damaged line first → fault ≡ why.Damaged line first
+damage-named why.Read line first e = cc
+damage-named why.Disk line first e = cc
+damage-named (why.Damaged other byte) line first e = cc
+damage-named why.Memory line first e = cc
 
 -- a log that can't be opened is refused
 pub refuses : (file : List ℕ) (fault : OpenFault)
-    → ((line : ℕ) → fault ≡ why.Damaged line → IsDamaged IsWholeEntry longest_entry line file)
+    → ((line : ℕ) (first : Option ℕ) → fault ≡ why.Damaged line first
+    → IsDamaged IsWholeEntry longest_entry line file)
     → RefusesLog file (Err (fault_answered fault))
 refuses file why.Read damaged = tt
 refuses file why.Disk damaged = tt
-refuses file (why.Damaged line) damaged = damaged line refl
+refuses file (why.Damaged line first) damaged = damaged line first refl
 refuses file why.Memory damaged = tt
 
 -- why a watch answers so that was opened without a fault
@@ -132,7 +133,7 @@ cause-behind disk (Err Open) old mid new same h =
     record { once = h.once ∙ ap suc same; last = h.last }
 cause-behind disk (Err Disk) old mid new same h =
     record { once = h.once ∙ ap suc same; last = h.last }
-cause-behind disk (Err (Damaged line)) old mid new same h = h ∙ same
+cause-behind disk (Err (Damaged line first)) old mid new same h = h ∙ same
 cause-behind disk (Err Memory) old mid new same h = h ∙ same
 cause-behind disk (Err Read) old mid new same h = h ∙ same
 cause-behind disk (Err (Back line last given)) old mid new same h = h ∙ same
@@ -158,21 +159,21 @@ never-memory first unread lines copies h = h
 never-memory first unwritten lines copies h = h
 
 never-damaged : (first : StartMoments) (stop : Stop) (lines : List (Option Line))
-    (copies : List MarkedCopy) (line : ℕ) → AnswersStop first stop lines copies (Err (Damaged line))
-    → ⊥
-never-damaged first at_end lines copies line h = h
-never-damaged first (back number last given) lines copies line h = h
-never-damaged first unread lines copies line h = h
-never-damaged first unwritten lines copies line h = h
+    (copies : List MarkedCopy) (line : ℕ) (byte : Option ℕ)
+    → AnswersStop first stop lines copies (Err (Damaged line byte)) → ⊥
+never-damaged first at_end lines copies line byte h = h
+never-damaged first (back number last given) lines copies line byte h = h
+never-damaged first unread lines copies line byte h = h
+never-damaged first unwritten lines copies line byte h = h
 
 module _ {D R W E : Type 0} (d : WatchDevices D R W E) (printing : Printing)
     (entries : List MarkedCopy) where
-  pub not-damaged : (file : List ℕ) (now : ℕ) (starts : Starts) (line : ℕ)
-      → AnswersOverBy d printing file now starts entries (Err (Damaged line)) → ⊥
-  not-damaged file now starts line h = ⊎_elim
-      (λ k. never-damaged (moments_at now starts) h.0 h.1 h.2 line k.1) (λ k. other k.1) h.4
+  pub not-damaged : (file : List ℕ) (now : ℕ) (starts : Starts) (line : ℕ) (byte : Option ℕ)
+      → AnswersOverBy d printing file now starts entries (Err (Damaged line byte)) → ⊥
+  not-damaged file now starts line byte h = ⊎_elim
+      (λ k. never-damaged (moments_at now starts) h.0 h.1 h.2 line byte k.1) (λ k. other k.1) h.4
     where
-      other : err (Damaged line) ≡ err Disk → ⊥
+      other : err (Damaged line byte) ≡ err Disk → ⊥
       other e = cc
 
   pub answers-watch : (now : ℕ) (outcome : Result WatchReport WatchFault)
@@ -182,7 +183,8 @@ module _ {D R W E : Type 0} (d : WatchDevices D R W E) (printing : Printing)
   answers-watch now (Err Read) h = h
   answers-watch now (Err (Back line last given)) h = h
   answers-watch now (Err Disk) h = inr h
-  answers-watch now (Err (Damaged line)) h = not-damaged _ now (starts_at now entries) line h
+  answers-watch now (Err (Damaged line byte)) h =
+      not-damaged _ now (starts_at now entries) line byte h
   answers-watch now (Err Open) h = absurd (⊎_elim
       (λ k. never-open (moments_at now (starts_at now entries)) h.0 h.1 h.2 k.1)
       (λ k. other k.1) h.4)

@@ -3,8 +3,12 @@ use Rattle.nx_kept.proofs.lemmas.Repairing.{keeps_either, keeps_records, keeps_r
 use Rattle.nx_kept.proofs.log.KeptLog.open.Goals as goal
 
 pub returns-in-Err-clause-damaged : goal.returns-in-Err-clause-damaged
-returns-in-Err-clause-damaged g c = λ start line explains same. c.in-Err.ensures.damaged start line
-    explains (cc)
+returns-in-Err-clause-damaged g c = λ start line first explains same.
+    c.in-Err.ensures.damaged start line first explains (cc)
+
+pub returns-in-Err-clause-first : goal.returns-in-Err-clause-first
+returns-in-Err-clause-first g c = λ start line first explains same.
+    c.in-Err.ensures.first start line first explains (cc)
 
 pub returns-in-Ok-clause-any_moment : goal.returns-in-Ok-clause-any_moment
 returns-in-Ok-clause-any_moment g c = λ start records explains stands.
