@@ -267,7 +267,7 @@ loop-has_failed-preserved g c =
                   (λ since is k. running-read stands since now first run new s.3 (told after.inner)
                   after.failures s.0 same refl k) (stamps_of c.read.new.reader)
                   (stamped g at start first old force well h (length c.read.new.self.piece)
-                      c.in-Bytes.ensures.read.0);
+                  c.in-Bytes.ensures.read.0);
             },
           );
     }
