@@ -1,6 +1,8 @@
 -- What is given to who takes the records of a log.
 use Rattle.std.specs.Prelude.{◌≡◌, ◌≢◌, ℕ, List, [], ◌∷◌, ◌++◌, ◌==◌, if◌then◌else◌}
+use Rattle.nx_kept.specs.Disk.{OnlyReads}
 use Rattle.nx_kept.specs.Kept.{closed_gate, line_behind, IsBehindOpenGates, IsTail}
+use Rattle.nx_kept.specs.declared.disk.DiskFile.{Ghosts as TellsOfDisk}
 
 -- from old to new it took these records, in order
 abbrev pub Took : {T : Type 0} → (T → List ℕ → T → Type 0) → T → List (List ℕ) → T → Type 0
@@ -22,6 +24,19 @@ pub record HeardOfCut {T : Type 0} (hears_of_cut : T → ℕ → List ℕ → T 
     (bytes : List ℕ) (old new : T) : Type 0 where
   pub nothing : bytes ≡ [] → new ≡ old
   pub heard : bytes ≢ [] → hears_of_cut old line bytes new
+
+-- from old to new the file is only read, whatever it had at first
+abbrev pub IsUntouched : {D : Type 0} → TellsOfDisk D → D → D → Type 0
+IsUntouched tells old new =
+    (start : List ℕ) → OnlyReads (tells.seen start) (tells.may_leave start) tells.moment
+    (tells.left_since start) old new
+
+-- It heard that bytes are cut before anything was: as it heard, the file was shown to it, and had
+-- only been read since it stood so.
+abbrev pub HearsBeforeCut : {D T : Type 0} → TellsOfDisk D → (D → T → ℕ → List ℕ → T → Type 0) → D
+    → T → ℕ → List ℕ → T → Type 0
+HearsBeforeCut {D} tells hears_of_cut file old line bytes new =
+    (shown : D) × IsUntouched tells file shown × hears_of_cut shown old line bytes new
 
 -- It took some records, and heard that some bytes behind them are cut, if it heard of any.
 pub record TookOnly {T : Type 0} (takes : T → List ℕ → T → Type 0)

@@ -30,7 +30,7 @@ impl<D: DiskFile, G: Grammar> KeptLog<D, G> {
     ghost use Rattle.nx_kept.specs.Disk.{LeavesOnly, OnlyReads, TellsFaults};
     ghost use Rattle.nx_kept.specs.Kept.{first_byte, open_gate, BeginsWith, IsBehindOpenGates, IsDamaged, IsKeptLog, StandsFor, WithOrWithout};
     ghost use Rattle.nx_kept.specs.Log.{IsAtRest, Keeps};
-    ghost use Rattle.nx_kept.specs.Taker.{TookAll, TookOnly, TookSome};
+    ghost use Rattle.nx_kept.specs.Taker.{HearsBeforeCut, TookAll, TookOnly, TookSome};
     ghost use Rattle.nx_kept.specs.Open.{HasCause, KeepsEither, KeepsFront, KeepsRecords, Opens, SyncsFirst, SyncsFirstOrReads};
 
     /// Opens a file that a crash may have left, and gives each of its records to the taker, in
@@ -38,7 +38,7 @@ impl<D: DiskFile, G: Grammar> KeptLog<D, G> {
     /// isn't touched. A tail that is no closed gate is cut, and one is written in its place: the
     /// taker hears of what is cut before that. An `Err` hands the file back; the taker may then
     /// have taken some of the records.
-    pub fn open<T: RecordTaker>(
+    pub fn open<T: RecordTaker<D>>(
         alloc: Global,
         mut device: D,
         grammar: G,
@@ -47,8 +47,8 @@ impl<D: DiskFile, G: Grammar> KeptLog<D, G> {
         requires { (record_ : List ℕ) → G.is_record record_ → T.can_take record_ }
 
         ensures opened { IfOk result (λ log. (start : List ℕ) → D.explains start log.device →
-            Opens G.is_record G.LONGEST T.takes T.hears_of_cut (D.seen start) (D.may_leave start)
-            device taker.old taker.new log) }
+            Opens G.is_record G.LONGEST T.takes (HearsBeforeCut D.DiskFile T.hears_of_cut device)
+            (D.seen start) (D.may_leave start) device taker.old taker.new log) }
 
         // A log whose last gate is closed, with nothing behind it, is only read.
         ensures only_read { IfOk result (λ log. (start : List ℕ) → D.explains start log.device →
@@ -128,8 +128,10 @@ impl<D: DiskFile, G: Grammar> KeptLog<D, G> {
         ensures within { IfErr result (λ e. (start : List ℕ) → D.explains start e.1 →
             D.faults e.1 ≢ D.faults device → D.has_failed_within start e.1) }
 
-        // Whatever the file is, it took some records and heard of a cut, and nothing else.
-        ensures taken { TookOnly T.takes T.hears_of_cut taker.old taker.new }
+        // Whatever the file is, it took some records and heard of a cut, and nothing else. As it
+        // heard, nothing of the file had been changed.
+        ensures taken { TookOnly T.takes (HearsBeforeCut D.DiskFile T.hears_of_cut device) taker.old
+            taker.new }
 
         // At a fault it took some of the records, and the file is only read; or it took all, and
         // heard of what is to be cut. Where a call to write failed, that was the first sync, or it
@@ -137,10 +139,12 @@ impl<D: DiskFile, G: Grammar> KeptLog<D, G> {
         ensures taken_err { IfErr result (λ e. (start : List ℕ) → D.explains start e.1 →
             (TookSome T.takes taker.old taker.new × OnlyReads (D.seen start) (D.may_leave start)
             D.moment (D.left_since start) device e.1) ⊎ TookAll G.is_record G.LONGEST T.takes
-            T.hears_of_cut (D.seen start device) taker.old taker.new) }
+            (HearsBeforeCut D.DiskFile T.hears_of_cut device) (D.seen start device) taker.old
+            taker.new) }
         ensures told_first { IfErr result (λ e. (start : List ℕ) → D.explains start e.1 →
             e.0 ≡ OpenFault.Disk → (taker.new ≡ taker.old) ⊎ TookAll G.is_record G.LONGEST T.takes
-            T.hears_of_cut (D.seen start device) taker.old taker.new) }
+            (HearsBeforeCut D.DiskFile T.hears_of_cut device) (D.seen start device) taker.old
+            taker.new) }
 
         ensures explained { IfOk result (λ log. (start : List ℕ) →
             D.explains start log.device → D.explains start device) }

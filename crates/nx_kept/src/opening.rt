@@ -4,19 +4,20 @@ ghost use Rattle.std.specs.Prelude.{◌≡◌, ◌≢◌, ◌⊎◌, ◌+◌, �
 ghost use Rattle.nx_kept.specs.Disk.{LeavesOnly, Only, OnlyReads, TellsFaults};
 ghost use Rattle.nx_kept.specs.Kept.{closed_gate, first_byte, IsDamaged, IsKeptLog, StandsFor};
 ghost use Rattle.nx_kept.specs.Open.{HasCause, KeepsFront, SyncsFirst, SyncsFirstOrReads};
-ghost use Rattle.nx_kept.specs.Taker.{TookAll, TookOnly, TookSome};
+ghost use Rattle.nx_kept.specs.Taker as taken;
+ghost use Rattle.nx_kept.specs.Taker.{HeardOfCut, HearsBeforeCut, TookAll, TookOnly, TookSome};
 ghost use Rattle.nx_kept.specs.private.Scan.{IsCutThere, Settles};
 
 use crate::disk::{DiskFailed, DiskFile};
 use crate::fault::OpenFault;
 use crate::grammar::Grammar;
-use crate::scan::{CLOSED_GATE, scan};
+use crate::scan::{CLOSED_GATE, Rest, scan};
 use crate::taker::RecordTaker;
 use std::alloc::Global;
 
 /// Cuts what stands from a place on, and writes a closed gate there. The cut is on the disk first:
 /// behind a gate that a crash has torn open, what stood there could count.
-fn repair<D: DiskFile>(device: &mut D, gate: usize) -> Result<(), DiskFailed>
+fn cut_and_close<D: DiskFile>(device: &mut D, gate: usize) -> Result<(), DiskFailed>
     ensures repaired { (start : List ℕ) → gate ≤ length (D.seen start device.old) → OnOk result
         (D.seen start device.new ≡ take gate (D.seen start device.old) ++ closed_gate ∷ []) }
     ensures durable { (start : List ℕ) → OnOk result
@@ -39,9 +40,62 @@ fn repair<D: DiskFile>(device: &mut D, gate: usize) -> Result<(), DiskFailed>
     device.sync()
 }
 
+/// What is cut of a tail: the bytes behind its closed gate, or a byte that is no closed gate.
+fn cut_of(tail: &[u8]) -> &[u8]
+    ensures { result.now ≡ taken.cut_of tail.now }
+{
+    if !tail.is_empty() && tail[0] == CLOSED_GATE {
+        &tail[1..]
+    } else {
+        tail
+    }
+}
+
+/// Tells what is going to be cut of a tail that begins on this line, if there is anything, and
+/// shows the file as it stands.
+fn tell_of_cut<D, T: RecordTaker<D>>(taker: &mut T, file: &D, line: u64, tail: &[u8])
+    ensures { HeardOfCut (T.hears_of_cut file.now) line (taken.cut_of tail.now) taker.old
+        taker.new }
+{
+    let bytes = cut_of(tail);
+    if !bytes.is_empty() {
+        taker.hear_of_cut(file, line, bytes);
+    }
+}
+
+/// Puts a closed gate in the place of this tail. What is cut is told before the file is touched.
+fn repair<D: DiskFile, T: RecordTaker<D>>(
+    device: &mut D,
+    taker: &mut T,
+    rest: &Rest,
+    tail: &[u8],
+) -> Result<(), DiskFailed>
+    ensures told { HeardOfCut (HearsBeforeCut D.DiskFile T.hears_of_cut device.old) rest.now.line
+        (taken.cut_of tail.now) taker.old taker.new }
+    ensures repaired { (start : List ℕ) → rest.now.gate ≤ length (D.seen start device.old) →
+        OnOk result (D.seen start device.new
+        ≡ take rest.now.gate (D.seen start device.old) ++ closed_gate ∷ []) }
+    ensures durable { (start : List ℕ) → OnOk result
+        (Only (D.seen start device.new) (D.may_leave start device.new)) }
+    ensures in_range { OnOk result (rest.now.gate + 1 < 2 ^ 63) }
+    ensures any_moment { (start : List ℕ) → rest.now.gate ≤ length (D.seen start device.old) →
+        Only (D.seen start device.old) (D.may_leave start device.old) →
+        LeavesOnly D.moment (D.left_since start) device.old device.new
+        (IsCutThere rest.now.gate (D.seen start device.old)) }
+    ensures faults { TellsFaults (D.faults device.old) (D.faults device.new)
+        (D.has_failed_to_write device.new) result }
+    ensures within { (start : List ℕ) → rest.now.gate ≤ length (D.seen start device.old) →
+        OnErr result (D.has_failed_within start device.new) }
+    ensures explained { (start : List ℕ) → D.explains start device.new
+        → D.explains start device.old }
+{
+    tell_of_cut(taker, &*device, rest.line, tail);
+    cut_and_close(device, rest.gate)
+}
+
 /// Reads a kept log from its beginning, and leaves one closed gate behind its records; its place.
 /// What is cut was told before.
-pub(crate) fn settle<D: DiskFile, G: Grammar, T: RecordTaker>(
+pub(crate) fn settle<D: DiskFile, G: Grammar, T: RecordTaker<D>>(
     alloc: Global,
     device: &mut D,
     grammar: &G,
@@ -49,16 +103,20 @@ pub(crate) fn settle<D: DiskFile, G: Grammar, T: RecordTaker>(
 ) -> Result<usize, OpenFault>
     requires { (record_ : List ℕ) → G.is_record record_ → T.can_take record_ }
     ensures settled { (start : List ℕ) → D.explains start device.new → IfOk result
-        (Settles G.is_record G.LONGEST T.takes T.hears_of_cut (D.seen start) (D.may_leave start)
+        (Settles G.is_record G.LONGEST T.takes
+        (HearsBeforeCut D.DiskFile T.hears_of_cut device.old) (D.seen start) (D.may_leave start)
         device.old device.new taker.old taker.new) }
-    ensures taken { TookOnly T.takes T.hears_of_cut taker.old taker.new }
+    ensures taken { TookOnly T.takes (HearsBeforeCut D.DiskFile T.hears_of_cut device.old)
+        taker.old taker.new }
     ensures taken_err { (start : List ℕ) → D.explains start device.new → OnErr result
         ((TookSome T.takes taker.old taker.new × OnlyReads (D.seen start) (D.may_leave start)
         D.moment (D.left_since start) device.old device.new) ⊎ TookAll G.is_record G.LONGEST
-        T.takes T.hears_of_cut (D.seen start device.old) taker.old taker.new) }
+        T.takes (HearsBeforeCut D.DiskFile T.hears_of_cut device.old) (D.seen start device.old)
+        taker.old taker.new) }
     ensures told_first { (start : List ℕ) → D.explains start device.new →
         IsErrOf result OpenFault.Disk → (taker.new ≡ taker.old) ⊎ TookAll G.is_record G.LONGEST
-        T.takes T.hears_of_cut (D.seen start device.old) taker.old taker.new }
+        T.takes (HearsBeforeCut D.DiskFile T.hears_of_cut device.old) (D.seen start device.old)
+        taker.old taker.new }
     ensures in_range { IfOk result (λ gate. gate + 1 < 2 ^ 63) }
     ensures only_read { (start : List ℕ) → D.explains start device.new →
         OnOk result (D.seen start device.new ≡ D.seen start device.old →
@@ -102,6 +160,6 @@ pub(crate) fn settle<D: DiskFile, G: Grammar, T: RecordTaker>(
     if rest.is_closed {
         return Ok(rest.gate);
     }
-    repair(device, rest.gate)?;
+    repair(device, taker, &rest, &buffer[..rest.count])?;
     Ok(rest.gate)
 }

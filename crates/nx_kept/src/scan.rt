@@ -1,10 +1,9 @@
 //! A kept log is read gate by gate.
 
-ghost use Rattle.std.specs.Prelude.{◌≡◌, ◌≢◌, ◌↔◌, [], ◌∷◌, ◌+◌, ◌<◌, ◌≤◌, ◌^◌, ◌==◌, List, ℕ, length, take, IfOk, IfErr, IsErrOf, IsTrue, OnErr, Option, count_by};
+ghost use Rattle.std.specs.Prelude.{◌≡◌, ◌≢◌, ◌↔◌, [], ◌∷◌, ◌+◌, ◌<◌, ◌≤◌, ◌^◌, ◌==◌, List, ℕ, length, take, IfOk, IfErr, IsErrOf, IsTrue, Option, count_by};
 ghost use Rattle.nx_kept.specs.Disk.{OnlyReads};
 ghost use Rattle.nx_kept.specs.Kept.{closed_gate, first_byte, line_feed, IsDamaged};
-ghost use Rattle.nx_kept.specs.Taker as taken;
-ghost use Rattle.nx_kept.specs.Taker.{HeardOfCut, TookOnly, TookSome};
+ghost use Rattle.nx_kept.specs.Taker.{TookSome};
 ghost use Rattle.nx_kept.specs.private.Scan.{Ends, ReadsUpTo, Steps};
 
 use crate::disk::DiskFile;
@@ -30,6 +29,10 @@ enum ScanStep {
 pub(crate) struct Rest {
     /// Its place: that of the last gate, once it is closed.
     pub(crate) gate: usize,
+    /// The line on which it begins, from 1.
+    pub(crate) line: u64,
+    /// How many bytes stand there.
+    pub(crate) count: usize,
     /// It is one closed gate, and nothing else.
     pub(crate) is_closed: bool,
 }
@@ -86,30 +89,9 @@ fn line_feeds(bytes: &[u8]) -> usize
     bytes.iter().filter(|byte| **byte == b'\n').count()
 }
 
-/// What is cut of a tail: the bytes behind its closed gate, or a byte that is no closed gate.
-fn cut_of(tail: &[u8]) -> &[u8]
-    ensures { result.now ≡ taken.cut_of tail.now }
-{
-    if !tail.is_empty() && tail[0] == CLOSED_GATE {
-        &tail[1..]
-    } else {
-        tail
-    }
-}
-
-/// Tells what is going to be cut of a tail, if there is anything.
-fn tell_of_cut<T: RecordTaker>(taker: &mut T, line: u64, tail: &[u8])
-    ensures { HeardOfCut T.hears_of_cut line (taken.cut_of tail.now) taker.old taker.new }
-{
-    let bytes = cut_of(tail);
-    if !bytes.is_empty() {
-        taker.hear_of_cut(line, bytes);
-    }
-}
-
-/// Reads a log from its beginning, gives each record, and tells what is to be cut behind them; what
-/// stands there, and where.
-pub(crate) fn scan<D: DiskFile, G: Grammar, T: RecordTaker>(
+/// Reads a log from its beginning, and gives each record; what stands behind them, and where. Its
+/// bytes are then at the front of the buffer.
+pub(crate) fn scan<D: DiskFile, G: Grammar, T: RecordTaker<D>>(
     device: &mut D,
     grammar: &G,
     taker: &mut T,
@@ -118,10 +100,10 @@ pub(crate) fn scan<D: DiskFile, G: Grammar, T: RecordTaker>(
     requires buffer { length buffer.old ≡ G.LONGEST + 3 }
     requires understood { (record_ : List ℕ) → G.is_record record_ → T.can_take record_ }
     ensures found { (start : List ℕ) → D.explains start device.new → IfOk result
-        (Ends G.is_record G.LONGEST T.takes T.hears_of_cut (D.seen start device.old) taker.old
+        (Ends G.is_record G.LONGEST T.takes (D.seen start device.old) buffer.new taker.old
         taker.new) }
-    ensures taken { TookOnly T.takes T.hears_of_cut taker.old taker.new }
-    ensures taken_err { OnErr result (TookSome T.takes taker.old taker.new) }
+    ensures took { TookSome T.takes taker.old taker.new }
+    ensures in_room { IfOk result (λ end. end.count ≤ length buffer.new) }
     ensures in_range { IfOk result (λ end. end.gate < 2 ^ 63) }
     ensures closed_in_range { IfOk result (λ end. IsTrue end.is_closed → end.gate + 1 < 2 ^ 63) }
     ensures faults { IfOk result (λ _. D.faults device.new ≡ D.faults device.old) }
@@ -152,8 +134,12 @@ pub(crate) fn scan<D: DiskFile, G: Grammar, T: RecordTaker>(
         match step_at(grammar, bytes) {
             ScanStep::Tail => {
                 let is_closed = is_closed_gate(bytes);
-                tell_of_cut(taker, line, bytes);
-                return Ok(Rest { gate, is_closed });
+                return Ok(Rest {
+                    gate,
+                    line,
+                    count,
+                    is_closed,
+                });
             }
             ScanStep::Record(length) => {
                 taker.take(&bytes[1..length + 1]);

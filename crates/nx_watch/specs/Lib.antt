@@ -5,6 +5,7 @@ pub mod LineRun
 pub mod LinesTold
 pub mod Stamp
 pub mod Stamps
+pub mod ToldFirst
 pub mod Start
 pub mod Watch
 pub mod private

@@ -5,13 +5,18 @@ use Rattle.nx_fec.specs.Transfers.{CountedDevice}
 use Rattle.nx_fec.specs.declared.devices.pieces.Piece.{Piece}
 use Rattle.nx_fec.specs.declared.devices.pieces.Piece.TheVariants.{End, Failed, Bytes}
 use Rattle.nx_watch.specs.declared.stamped.StampedReader.{StampedReader}
-use Rattle.nx_watch.specs.Stamp.{AreTheReads, Stamp}
+use Rattle.nx_watch.specs.declared.stamped.cut_notes.CutNotes.{CutNotes}
+use Rattle.nx_watch.specs.Stamp.{AreTheReads, CutNote, Stamp}
 
 -- how many bytes a read gave
 abbrev pub size_of_piece : Piece → ℕ
 size_of_piece End = 0
 size_of_piece Failed = 0
 size_of_piece (Bytes count) = count
+
+-- what was noted as a start told what it cuts, the last note first
+abbrev pub notes_of : {D N : Type 0} → CutNotes D N → List (CutNote D N)
+notes_of notes = notes.stamps.items
 
 module _ {R D W N : Type 0} where
   -- the counted reader that a stamped one reads from
@@ -25,6 +30,10 @@ module _ {R D W N : Type 0} where
   -- what stood at each of its reads, the last one first
   abbrev pub stamps_of : StampedReader R D W N → List (Stamp D W N)
   stamps_of reader = reader.stamps.items
+
+  -- what was noted in it as a start told what it cuts, the last note first
+  abbrev pub cut_notes : StampedReader R D W N → List (CutNote D N)
+  cut_notes reader = notes_of reader.cuts
 
   -- From old to new it read some bytes, and its stamps are the reads of them.
   abbrev pub HasStampedReads : (R → Option (List ℕ)) → StampedReader R D W N

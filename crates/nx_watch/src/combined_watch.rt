@@ -9,7 +9,8 @@ ghost use Rattle.nx_copies.specs.copies.Shares.{MarkedCopy};
 ghost use Rattle.nx_combine.specs.CombinedPrinting.{combined};
 ghost use Rattle.nx_watch.specs.Watch.{AnswersWatchBy, FailsWithin, HasCause, RefusesLog, StandsForEntries, longest_entry};
 ghost use Rattle.nx_watch.specs.LineRun.{TellsOfLines};
-ghost use Rattle.nx_watch.specs.Stamps.{HasStampedReads, IsFresh, counted_of, stamps_of};
+ghost use Rattle.nx_watch.specs.Stamps.{HasStampedReads, IsFresh, counted_of, cut_notes, stamps_of};
+ghost use Rattle.nx_watch.specs.ToldFirst.{TellsBeforeChange};
 ghost use Rattle.nx_watch.specs.declared.watch_fault.WatchFault.TheVariants.{Damaged as DamagedAt};
 
 use crate::left_on::watch_with;
@@ -86,6 +87,11 @@ pub fn watch_combined<D: DiskFile + Drop, R: Read, W: Write, F: Write>(
 
     // Each read of the input has a stamp, and nothing else has one.
     ensures stamps { HasStampedReads R.remaining reader.old reader.new }
+
+    // Where a start cuts something of the log, that had been told before the file was changed.
+    ensures told_first { (start : List ℕ) → D.explains start result.1
+        → TellsBeforeChange D.DiskFile F.contents device notices.old (cut_notes reader.old)
+        (cut_notes reader.new) start result.1 }
 
     // Whatever the file is, it was told on `notices` what is cut, and of some lines; nothing else.
     ensures told { TellsOfLines (F.contents notices.old.inner) (F.contents notices.new.inner)

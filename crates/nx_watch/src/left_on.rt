@@ -8,7 +8,8 @@ ghost use Rattle.nx_log.specs.Entries.{IsWholeEntry};
 ghost use Rattle.nx_copies.specs.copies.Shares.{MarkedCopy};
 ghost use Rattle.nx_watch.specs.Watch.{AnswersWatch, AnswersWatchBy, FailsWithin, HasCause, PrintsLoggable, RefusesLog, StandsForEntries, longest_entry};
 ghost use Rattle.nx_watch.specs.LineRun.{TellsOfLines};
-ghost use Rattle.nx_watch.specs.Stamps.{HasStampedReads, IsFresh, counted_of, stamps_of};
+ghost use Rattle.nx_watch.specs.Stamps.{HasStampedReads, IsFresh, counted_of, cut_notes, stamps_of};
+ghost use Rattle.nx_watch.specs.ToldFirst.{TellsBeforeChange};
 ghost use Rattle.nx_watch.specs.private.Answering.{fault_answered};
 ghost use Rattle.nx_watch.specs.declared.watch_fault.WatchFault.TheVariants.{Damaged as DamagedAt};
 
@@ -36,11 +37,11 @@ use std::io::{Read, Write};
 /// then; everything is selected. Elements that come before any moment set it, or the newest
 /// remembered one where that is later; one past the year 2999 isn't set. The end of the input
 /// closes the channels 0, 1 and 2 in order, and so does a moment that ends the watch. What is cut
-/// of the log is told on `notices` before it is cut. Lines without effect are told of there too:
-/// the first, and why it has none, before the next read, and their number at the end. A put that
-/// fails is told before the next read, or behind the number where it was in the closings. A failed
-/// write there is passed over. Memory is taken before the first read, and not later. Hands the file
-/// back.
+/// of the log is told on `notices` before it is cut, as the reader notes. Lines without effect are
+/// told of there too: the first, and why it has none, before the next read, and their number at the
+/// end. A put that fails is told before the next read, or behind the number where it was in the
+/// closings. A failed write there is passed over. Memory is taken before the first read, and not
+/// later. Hands the file back.
 ///
 /// From a failed put on the disk isn't called any more: that entry and all later ones are written
 /// to `writer`, each before the next read, as `listen` writes them. Whatever ends the watch then, a
@@ -105,6 +106,11 @@ pub fn watch<D: DiskFile + Drop, R: Read, W: Write, F: Write>(
 
     // Each read of the input has a stamp, and nothing else has one.
     ensures stamps { HasStampedReads R.remaining reader.old reader.new }
+
+    // Where a start cuts something of the log, that had been told before the file was changed.
+    ensures told_first { (start : List ℕ) → D.explains start result.1
+        → TellsBeforeChange D.DiskFile F.contents device notices.old (cut_notes reader.old)
+        (cut_notes reader.new) start result.1 }
 
     // Whatever the file is, it was told on `notices` what is cut, and of some lines; nothing else.
     ensures told { TellsOfLines (F.contents notices.old.inner) (F.contents notices.new.inner)
@@ -173,12 +179,17 @@ pub fn watch_with<C: ChannelReceiver, D: DiskFile + Drop, R: Read, W: Write, F: 
     // Each read of the input has a stamp, and nothing else has one.
     ensures stamps { HasStampedReads R.remaining reader.old reader.new }
 
+    // Where a start cuts something of the log, that had been told before the file was changed.
+    ensures told_first { (start : List ℕ) → D.explains start result.1
+        → TellsBeforeChange D.DiskFile F.contents device notices.old (cut_notes reader.old)
+        (cut_notes reader.new) start result.1 }
+
     // Whatever the file is, it was told on `notices` what is cut, and of some lines; nothing else.
     ensures told { TellsOfLines (F.contents notices.old.inner) (F.contents notices.new.inner)
         notices.new.failures }
 {
     let mut memory = LogMemory::new();
-    let log = match open_log(alloc, device, &mut memory, notices) {
+    let log = match open_log(alloc, device, &mut memory, notices, &mut reader.cuts) {
         Ok(log) => log,
         Err((fault, device)) => return (Err(fault_of(fault)), device),
     };

@@ -13,7 +13,7 @@ ghost use Rattle.nx_watch.specs.private.Effects.{acting_and_set, is_acting, IsEf
 ghost use Rattle.nx_watch.specs.private.Running.{EndsInput, EndsRun, HasToldLines, HasToldSo, IsBeside, IsRunning, IsToldByEnd, TellsFirst, ToldBefore, ToldBeside, beside};
 ghost use Rattle.nx_receiver.specs.Listener.{starts_by};
 ghost use Rattle.nx_watch.specs.Stamp.{AreTheReads, LastGaveNone};
-ghost use Rattle.nx_watch.specs.Stamps.{HasStampedReads, IsFresh, bytes_given, counted_of, stamps_of};
+ghost use Rattle.nx_watch.specs.Stamps.{HasStampedReads, IsFresh, bytes_given, counted_of, cut_notes, stamps_of};
 ghost use Rattle.nx_watch.specs.private.LoggingListener.{KeepsLines, LoggingOver, LoggingTo, TakesLines, logging_to};
 ghost use Rattle.nx_watch.specs.private.AnyReading.{GoesOn, HasGiven, SaysLine, latest_of, reach, waiting};
 ghost use Rattle.nx_watch.specs.declared.lines.any_lines.AnyLine.TheVariants.{Known};
@@ -84,6 +84,7 @@ pub(crate) fn watch_lines<R: Read, D: DiskFile + Drop, C: ChannelReceiver, W: Wr
         }) result bytes }
     ensures consumed { HasStampedReads R.remaining reader.old reader.new }
     ensures stamps { AreTheReads (stamps_of reader.new) (bytes_given reader.new) }
+    ensures cuts { cut_notes reader.new ≡ cut_notes reader.old }
     ensures ended { OnOk result (LastGaveNone (stamps_of reader.new)
         ⊎ (bytes_given reader.new ≡ limit)) }
     ensures failed { IsErrOf result ReadFailed → LastGaveNone (stamps_of reader.new) }
@@ -158,6 +159,7 @@ impl LineRun {
             (stamps_of reader.new)) }
         ensures consumed { HasStampedReads R.remaining reader.old reader.new }
         ensures stamps { AreTheReads (stamps_of reader.new) (bytes_given reader.new) }
+        ensures cuts { cut_notes reader.new ≡ cut_notes reader.old }
         ensures ended { OnOk result (LastGaveNone (stamps_of reader.new)
             ⊎ (bytes_given reader.new ≡ self.old.lines.room)) }
         ensures failed { IsErrOf result ReadFailed → LastGaveNone (stamps_of reader.new) }

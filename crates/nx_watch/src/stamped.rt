@@ -3,23 +3,27 @@
 ghost use Rattle.std.specs.Prelude.{◌≡◌, ◌+◌, ◌<◌, ◌≤◌, [], ◌∷◌, length};
 ghost use Rattle.nx_fec.specs.Transfers.{HasLength, IsNextPiece, count_of, max_piece};
 ghost use Rattle.nx_watch.specs.Stamp.{stamp};
-ghost use Rattle.nx_watch.specs.Stamps.{bytes_given, counted_of, size_of_piece, stamps_of};
+ghost use Rattle.nx_watch.specs.Stamps.{bytes_given, counted_of, cut_notes, size_of_piece, stamps_of};
 
+use crate::stamped::cut_notes::CutNotes;
 use crate::stamped::stamps::Stamps;
 use nx_fec::{Counting, Piece, PieceBuffer};
 use std::io::Read;
 
+pub(crate) mod cut_notes;
 mod stamps;
 
 /// A counted reader that notes, for clauses alone, what stood at each of its reads: how many bytes
 /// had come before it, the disk file, the output and the notices, and how many bytes it gave.
-/// Nothing else makes a stamp, and nothing else of it reads.
+/// Nothing else makes a stamp, and nothing else of it reads. What stood as a start told what it
+/// cuts of its log is noted in it too.
 #[derive(Drop)]
 pub struct StampedReader<R, D, W, N> {
     reader: Counting<R>,
     /// How many bytes it gave, at most the greatest u64.
     given: u64,
     stamps: Stamps<D, W, N>,
+    pub(crate) cuts: CutNotes<D, N>,
 }
 
 impl<R, D, W, N> StampedReader<R, D, W, N> {
@@ -28,11 +32,13 @@ impl<R, D, W, N> StampedReader<R, D, W, N> {
         ensures reader { counted_of result ≡ reader }
         ensures given { bytes_given result ≡ 0 }
         ensures stamps { stamps_of result ≡ [] }
+        ensures cuts { cut_notes result ≡ [] }
     {
         StampedReader {
             reader,
             given: 0,
             stamps: Stamps::new(),
+            cuts: CutNotes::new(),
         }
     }
 
@@ -44,6 +50,7 @@ impl<R, D, W, N> StampedReader<R, D, W, N> {
             reader,
             given: _,
             stamps: _,
+            cuts: _,
         } = self;
         reader
     }
@@ -73,6 +80,7 @@ impl<R: Read, D, W, N> StampedReader<R, D, W, N> {
         ensures stamped { stamps_of self.new
             ≡ stamp (bytes_given self.old) (size_of_piece result) disk.now writer.now notices.now
             ∷ stamps_of self.old }
+        ensures cuts { cut_notes self.new ≡ cut_notes self.old }
     {
         let piece = buffer.read(&mut self.reader, most);
         let gave = size_of(&piece);

@@ -6,7 +6,7 @@ ghost use Rattle.nx_fec.specs.Transfers.{CountedDevice, devices};
 ghost use Rattle.nx_receiver.specs.Listener.{HearsBy, starts_by};
 ghost use Rattle.nx_watch.specs.CutTold.{TellsOfSomeCut};
 ghost use Rattle.nx_watch.specs.LineRun.{HasTold, TellsOfLines};
-ghost use Rattle.nx_watch.specs.Stamps.{HasStampedReads, IsFresh, counted_of, stamps_of};
+ghost use Rattle.nx_watch.specs.Stamps.{HasStampedReads, IsFresh, counted_of, cut_notes, stamps_of};
 ghost use Rattle.nx_watch.specs.Watch.{PrintsLoggable};
 ghost use Rattle.nx_watch.specs.private.Keeping.{HasKept};
 ghost use Rattle.nx_watch.specs.private.LoggingListener.{HasRun};
@@ -58,6 +58,7 @@ pub(crate) fn run_watch<R: Read, D: DiskFile + Drop, C: ChannelReceiver, W: Writ
           stamps = stamps_of reader.new;
         }) result.0 result.1 }
     ensures stamps { HasStampedReads R.remaining reader.old reader.new }
+    ensures cuts { cut_notes reader.new ≡ cut_notes reader.old }
     ensures told { (old : Option (List ℕ)) (cut : List ℕ) → TellsOfSomeCut cut
         → HasTold old (F.contents notices.old.inner) notices.old.failures cut
         → PrintsLoggable C.kind.printing

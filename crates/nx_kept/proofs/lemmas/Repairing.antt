@@ -141,11 +141,11 @@ module _ {D : Type 0} (f : File D) (is_record : List ℕ → Type 0) (longest : 
   -- and was repaired behind its records
   pub repaired : (some : (bytes : List ℕ) → is_record bytes → 0 < length bytes)
       (one : (bytes more : List ℕ) → is_record bytes → is_record (bytes ++ more) → more ≡ [])
-      {T : Type 0} {takes : T → List ℕ → T → Type 0} {hears : T → ℕ → List ℕ → T → Type 0}
-      {before after : T} (records : List (List ℕ))
+      {T : Type 0} {takes : T → List ℕ → T → Type 0} {shown : List ℕ} {before after : T}
+      (records : List (List ℕ))
       (end : Rest) {old mid read now : D} → StandsFor is_record longest records (f.seen old)
       → Reads f old mid → Only (f.seen old) (f.may_leave mid) → Reads f mid read
-      → Ends is_record longest takes hears (f.seen mid) before after end
+      → Ends is_record longest takes (f.seen mid) shown before after end
       → (end.gate ≤ length (f.seen read) → Only (f.seen read) (f.may_leave read)
       → LeavesOnly f.moment f.left_since read now (IsCutThere end.gate (f.seen read)))
       → SyncedFirst records old now

@@ -2,7 +2,7 @@
 use Rattle.std.proofs.Common.{◌≡◌, ◌↔◌, Bool, IsTrue, ℕ, Option, zero, suc, ◌+◌, ◌<◌, ◌≤◌, List, [], ◌∷◌, ◌++◌, length, take, drop, refl, sym, ◌∙◌, ap, subst, arith, append_assoc, length-append, length-take, count_by, ◌==◌}
 use Rattle.std.proofs.lemmas.List.{drop_at, drop-take, take_all, take_at, take-take}
 use Rattle.nx_kept.specs.Kept.{closed_gate, first_byte, line_feed, line_behind, IsTail, IsBehindOpenGates, IsDamaged, IsDamagedBehind}
-use Rattle.nx_kept.specs.Taker.{HeardOfCut, Took, TookOnly, TookSome, cut_of}
+use Rattle.nx_kept.specs.Taker.{Took, TookOnly, TookSome}
 use Rattle.nx_kept.specs.private.Scan.{Ends, IsAtRecord}
 use Rattle.nx_kept.proofs.lemmas.Pieces.{count_by-append, take_past}
 use Rattle.nx_kept.proofs.lemmas.KeptLaws.{one_behind, damaged_behind, tail_short}
@@ -169,18 +169,17 @@ module _ (is_record : List ℕ → Type 0) {T : Type 0} (takes : T → List ℕ 
           omega (arith, reached.at_line, count, both),
         )
 
-    -- what is left is a tail, of which what is to be cut was heard of
-    pub reached_end : (hears : T → ℕ → List ℕ → T → Type 0) (now after : T) (bytes : List ℕ)
-        (is_closed : Bool) → Reached file gate line old now
-        → bytes ≡ take (longest + 3) (drop gate file) → IsTail longest (drop gate file)
-        → (IsTrue is_closed ↔ (bytes ≡ closed_gate ∷ []))
-        → HeardOfCut hears line (cut_of bytes) now after
-        → Ends is_record longest takes hears file old after
-        (record { gate = gate; is_closed = is_closed })
-    reached_end hears now after bytes is_closed reached shown is closed heard =
+    -- what is left is a tail
+    pub reached_end : (now : T) (read : List ℕ) (count : ℕ) (is_closed : Bool)
+        → Reached file gate line old now
+        → take count read ≡ take (longest + 3) (drop gate file) → IsTail longest (drop gate file)
+        → (IsTrue is_closed ↔ (take count read ≡ closed_gate ∷ []))
+        → Ends is_record longest takes file read old now
+        (record { gate = gate; line = line; count = count; is_closed = is_closed })
+    reached_end now read count is_closed reached shown is closed =
         let rest_is = left_is file gate line old now reached in
         let short = tail_short is_record longest (drop gate file) is in
-        let all : bytes ≡ reached.rest = shown
+        let all : take count read ≡ reached.rest = shown
         ∙ take_all (longest + 3) (drop gate file) (omega (arith, short)) ∙ rest_is in
         record {
           all = record {
@@ -190,13 +189,10 @@ module _ (is_record : List ℕ → Type 0) {T : Type 0} (takes : T → List ℕ 
             kept = reached.kept;
             end = subst (IsTail longest) rest_is is;
             split = reached.split;
-            given = now;
             taken = reached.taken;
-            heard =
-                subst (λ (l : ℕ). HeardOfCut hears l (cut_of reached.rest) now after)
-                reached.at_line
-                (subst (λ (t : List ℕ). HeardOfCut hears line (cut_of t) now after) all heard);
           };
           gate = reached.place;
+          line = reached.at_line;
+          shown = all;
           closed = ((λ is_true. sym all ∙ closed.0 is_true), (λ same. closed.1 (all ∙ same)));
         }

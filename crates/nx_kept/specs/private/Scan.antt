@@ -3,8 +3,8 @@ use Rattle.std.specs.Prelude.{◌≡◌, ◌≢◌, ◌⊎◌, ◌↔◌, ℕ, �
 use Rattle.nx_kept.specs.Disk.{FailedOnce, Only}
 use Rattle.nx_kept.specs.declared.fault.OpenFault.{OpenFault}
 use Rattle.nx_kept.specs.declared.fault.OpenFault.TheVariants.{Read, Disk, Damaged as DamagedAt, Memory}
-use Rattle.nx_kept.specs.Kept.{closed_gate, IsTail, IsDamagedBehind}
-use Rattle.nx_kept.specs.Taker.{TookAll}
+use Rattle.nx_kept.specs.Kept.{closed_gate, line_behind, IsBehindOpenGates, IsTail, IsDamagedBehind}
+use Rattle.nx_kept.specs.Taker.{Took, TookAll}
 use Rattle.nx_kept.specs.declared.scan.ScanStep.{ScanStep}
 use Rattle.nx_kept.specs.declared.scan.ScanStep.TheVariants.{Tail, Record, Damaged}
 use Rattle.nx_kept.specs.declared.scan.Rest.{Rest}
@@ -26,13 +26,25 @@ module _ (is_record : List ℕ → Type 0) (longest : ℕ) where
   Steps bytes (Record n) = IsAtRecord n bytes
   Steps bytes (Damaged place) = IsDamagedBehind is_record longest place bytes
 
-  -- the file is records behind open gates, which were taken, and a tail, of which what is to be
-  -- cut was heard of
-  pub record Ends {T : Type 0} (takes : T → List ℕ → T → Type 0)
-      (hears_of_cut : T → ℕ → List ℕ → T → Type 0) (file : List ℕ) (old new : T) (end : Rest)
-      : Type 0 where
-    pub all : TookAll is_record longest takes hears_of_cut file old new
+  -- the file is records behind open gates, which were taken, and a tail
+  pub record TookRecords {T : Type 0} (takes : T → List ℕ → T → Type 0) (file : List ℕ)
+      (old new : T) : Type 0 where
+    pub records : List (List ℕ)
+    pub front : List ℕ
+    pub tail : List ℕ
+    pub kept : IsBehindOpenGates is_record records front
+    pub end : IsTail longest tail
+    pub split : file ≡ front ++ tail
+    pub taken : Took takes old records new
+
+  -- The reading ended there: it is known where the tail stands, and the tail is at the front of
+  -- what was read last.
+  pub record Ends {T : Type 0} (takes : T → List ℕ → T → Type 0) (file read : List ℕ) (old new : T)
+      (end : Rest) : Type 0 where
+    pub all : TookRecords takes file old new
     pub gate : end.gate ≡ length all.front
+    pub line : end.line ≡ line_behind all.front
+    pub shown : take end.count read ≡ all.tail
     pub closed : IsTrue end.is_closed ↔ (all.tail ≡ closed_gate ∷ [])
 
 -- the bytes are the file's up to the place, and then some more of it, or at most one byte of any

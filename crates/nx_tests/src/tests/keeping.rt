@@ -15,19 +15,19 @@ struct Count {
     cut_line: u64,
 }
 
-impl RecordTaker for Count {
+impl<D> RecordTaker<D> for Count {
     ghost can_take = { λ _. Unit {0} };
 
     ghost takes = { λ _ _ _. Unit {0} };
 
-    ghost hears_of_cut = { λ _ _ _ _. Unit {0} };
+    ghost hears_of_cut = { λ _ _ _ _ _. Unit {0} };
 
     fn take(&mut self, bytes: &[u8]) {
         self.records = self.records.wrapping_add(1);
         self.last = bytes.get(1).copied().unwrap_or(0);
     }
 
-    fn hear_of_cut(&mut self, line: u64, bytes: &[u8]) {
+    fn hear_of_cut(&mut self, _file: &D, line: u64, bytes: &[u8]) {
         self.cut = bytes.len();
         self.cut_line = line;
     }

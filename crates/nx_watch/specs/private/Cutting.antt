@@ -11,6 +11,8 @@ use Rattle.nx_watch.specs.Watch.{TellsOfCut, longest_entry}
 use Rattle.nx_watch.specs.declared.kept_log.log_grammar.LogGrammar.{LogGrammar}
 use Rattle.nx_watch.specs.declared.kept_log.log_memory.LogMemory.{LogMemory}
 use Rattle.nx_watch.specs.LineRun.{HasTold}
+use Rattle.nx_watch.specs.Stamp.{note}
+use Rattle.nx_watch.specs.Stamps.{notes_of}
 use Rattle.nx_watch.specs.declared.kept_log.log_opening.LogOpening.{LogOpening}
 use Rattle.nx_watch.specs.private.Remembering.{RemembersMore}
 
@@ -34,17 +36,18 @@ AreHeadsBefore bytes at heads =
     (more : List (List ℕ)) → AreHeads (drop at bytes) more → AreHeads bytes (heads ++ more)
 
 -- one entry more is remembered, and nothing is told
-pub record TakesEntry {F : Type 0} (old : LogOpening F) (bytes : List ℕ) (new : LogOpening F)
+pub record TakesEntry {D F : Type 0} (old : LogOpening D F) (bytes : List ℕ) (new : LogOpening D F)
     : Type 0 where
   pub remembers : RemembersMore old.memory.now bytes new.memory.now
   pub same_memory : new.memory.ghost_name ≡ old.memory.ghost_name
   pub same_notices : new.notices.ghost_name ≡ old.notices.ghost_name
+  pub same_cuts : new.cuts.ghost_name ≡ old.cuts.ghost_name
   pub untold : new.notices.now ≡ old.notices.now
+  pub unnoted : new.cuts.now ≡ old.cuts.now
 
--- nothing more is remembered, and it is told what is cut
-pub record HearsOfCut {F : Type 0} (contents : F → Option (List ℕ)) (old : LogOpening F) (line : ℕ)
-    (bytes : List ℕ)
-    (new : LogOpening F)
+-- nothing more is remembered, it is told what is cut, and then noted how the file stood
+pub record HearsOfCut {D F : Type 0} (contents : F → Option (List ℕ)) (file : D)
+    (old : LogOpening D F) (line : ℕ) (bytes : List ℕ) (new : LogOpening D F)
     : Type 0 where
   pub remembers : new.memory.now ≡ old.memory.now
   pub same_memory : new.memory.ghost_name ≡ old.memory.ghost_name
@@ -52,6 +55,8 @@ pub record HearsOfCut {F : Type 0} (contents : F → Option (List ℕ)) (old : L
   pub heads : List (List ℕ)
   pub are : AreHeads bytes heads
   pub told : TellsMore contents old.notices.now new.notices.now (cut_told line bytes heads)
+  pub same_cuts : new.cuts.ghost_name ≡ old.cuts.ghost_name
+  pub noted : notes_of new.cuts.now ≡ note file new.notices.now ∷ notes_of old.cuts.now
 
 -- what a start cuts of this file was told behind what stood there
 abbrev pub HasToldCut : {F : Type 0} → (F → Option (List ℕ)) → List ℕ → CountedDevice F

@@ -8,32 +8,34 @@ ghost use Rattle.nx_kept.specs.declared.fault.OpenFault.TheVariants as why;
 ghost use Rattle.nx_log.specs.Entries.{IsWholeEntry};
 ghost use Rattle.nx_watch.specs.Watch.{FailsWithin, longest_entry};
 ghost use Rattle.nx_watch.specs.CutTold.{TellsOfSomeCut};
+ghost use Rattle.nx_watch.specs.Stamps.{notes_of};
+ghost use Rattle.nx_watch.specs.ToldFirst.{TellsBeforeChange, ToldBeforeCut};
 ghost use Rattle.nx_watch.specs.private.Cutting.{HasToldCut, HearsOfCut, OpensLog, TakesEntry, TellsMore};
 
 use crate::kept_log::cut::tell_of_cut;
 use crate::kept_log::log_grammar::LogGrammar;
 use crate::kept_log::log_memory::LogMemory;
+use crate::stamped::cut_notes::CutNotes;
 use nx_fec::Counting;
 use nx_kept::{DiskFile, KeptLog, OpenFault, RecordTaker};
 use std::alloc::Global;
 use std::io::Write;
 
-/// Takes the entries of a log, and tells on the notices what is cut behind them.
+/// Takes the entries of a log, tells on the notices what is cut behind them, and notes what stood
+/// then.
 #[derive(Drop)]
-struct LogOpening<'a, F> {
+struct LogOpening<'a, D, F> {
     memory: &'a mut LogMemory,
     notices: &'a mut Counting<F>,
+    cuts: &'a mut CutNotes<D, Counting<F>>,
 }
 
-impl<'a, F: Write> LogOpening<'a, F> {
+impl<'a, D: DiskFile, F: Write> LogOpening<'a, D, F> {
     /// Opens a log. What it remembers is taken, and what is cut of it is told.
-    fn open<D: DiskFile>(
-        &mut self,
-        alloc: Global,
-        device: D,
-    ) -> Result<KeptLog<D, LogGrammar>, (OpenFault, D)>
+    fn open(&mut self, alloc: Global, device: D) -> Result<KeptLog<D, LogGrammar>, (OpenFault, D)>
         ensures same_memory { self.new.memory.ghost_name ≡ self.old.memory.ghost_name }
         ensures same_notices { self.new.notices.ghost_name ≡ self.old.notices.ghost_name }
+        ensures same_cuts { self.new.cuts.ghost_name ≡ self.old.cuts.ghost_name }
         ensures told { (cut : List ℕ) × TellsOfSomeCut cut
             × TellsMore F.contents self.old.notices.now self.new.notices.now cut }
         ensures opened { IfOk result (λ log. (start : List ℕ) → D.explains start log.device →
@@ -41,8 +43,16 @@ impl<'a, F: Write> LogOpening<'a, F> {
             self.new.memory.now self.old.notices.now self.new.notices.now log) }
         ensures told_err { IfErr result (λ e. (start : List ℕ) → D.explains start e.1 →
             HasToldCut F.contents (D.seen start device) self.old.notices.now self.new.notices.now
-            ⊎ ((self.new.notices.now ≡ self.old.notices.now) × OnlyReads (D.seen start)
+            ⊎ ((self.new.notices.now ≡ self.old.notices.now)
+            × (self.new.cuts.now ≡ self.old.cuts.now) × OnlyReads (D.seen start)
             (D.may_leave start) D.moment (D.left_since start) device e.1)) }
+        ensures told_first { IfOk result (λ log. (start : List ℕ) → D.explains start log.device →
+            self.old.notices.now.failures ≡ 0 → ToldBeforeCut D.DiskFile F.contents device
+            self.old.notices.now (notes_of self.old.cuts.now) (notes_of self.new.cuts.now) start) }
+        ensures told_first_err { IfErr result (λ e. (start : List ℕ) → D.explains start e.1 →
+            self.old.notices.now.failures ≡ 0 → TellsBeforeChange D.DiskFile F.contents device
+            self.old.notices.now (notes_of self.old.cuts.now) (notes_of self.new.cuts.now) start
+            e.1) }
         ensures any_moment { IfOk result (λ log. (start : List ℕ) (records : List (List ℕ)) →
             D.explains start log.device →
             StandsFor IsWholeEntry longest_entry records (D.seen start device) →
@@ -77,12 +87,13 @@ impl<'a, F: Write> LogOpening<'a, F> {
 }
 
 /// Opens a log. What it remembers is taken into the memory, and what is cut of it is told on the
-/// notices, before it is cut.
+/// notices, before it is cut; what stood then is noted.
 pub(crate) fn open_log<D: DiskFile, F: Write>(
     alloc: Global,
     device: D,
     memory: &mut LogMemory,
     notices: &mut Counting<F>,
+    cuts: &mut CutNotes<D, Counting<F>>,
 ) -> Result<KeptLog<D, LogGrammar>, (OpenFault, D)>
     ensures told { (cut : List ℕ) × TellsOfSomeCut cut
         × TellsMore F.contents notices.old notices.new cut }
@@ -91,8 +102,14 @@ pub(crate) fn open_log<D: DiskFile, F: Write>(
         notices.old notices.new log) }
     ensures told_err { IfErr result (λ e. (start : List ℕ) → D.explains start e.1 →
         HasToldCut F.contents (D.seen start device) notices.old notices.new
-        ⊎ ((notices.new ≡ notices.old) × OnlyReads (D.seen start) (D.may_leave start) D.moment
-        (D.left_since start) device e.1)) }
+        ⊎ ((notices.new ≡ notices.old) × (cuts.new ≡ cuts.old) × OnlyReads (D.seen start)
+        (D.may_leave start) D.moment (D.left_since start) device e.1)) }
+    ensures told_first { IfOk result (λ log. (start : List ℕ) → D.explains start log.device →
+        notices.old.failures ≡ 0 → ToldBeforeCut D.DiskFile F.contents device notices.old
+        (notes_of cuts.old) (notes_of cuts.new) start) }
+    ensures told_first_err { IfErr result (λ e. (start : List ℕ) → D.explains start e.1 →
+        notices.old.failures ≡ 0 → TellsBeforeChange D.DiskFile F.contents device notices.old
+        (notes_of cuts.old) (notes_of cuts.new) start e.1) }
     ensures any_moment { IfOk result (λ log. (start : List ℕ) (records : List (List ℕ)) →
         D.explains start log.device →
         StandsFor IsWholeEntry longest_entry records (D.seen start device) →
@@ -122,16 +139,21 @@ pub(crate) fn open_log<D: DiskFile, F: Write>(
     ensures explained_err { IfErr result (λ e. (start : List ℕ) →
         D.explains start e.1 → D.explains start device) }
 {
-    let mut opening = LogOpening { memory, notices };
+    let mut opening = LogOpening {
+        memory,
+        notices,
+        cuts,
+    };
     let opened = opening.open(alloc, device);
     let LogOpening {
         memory: _,
         notices: _,
+        cuts: _,
     } = opening;
     opened
 }
 
-impl<'a, F: Write> RecordTaker for LogOpening<'a, F> {
+impl<'a, D, F: Write> RecordTaker<D> for LogOpening<'a, D, F> {
     ghost use Rattle.nx_log.specs.Entries.{IsWholeEntry};
     ghost use Rattle.nx_watch.specs.private.Cutting.{HearsOfCut, TakesEntry};
 
@@ -146,7 +168,8 @@ impl<'a, F: Write> RecordTaker for LogOpening<'a, F> {
     }
 
     /// What is cut is no entry that counts, so nothing is remembered of it.
-    fn hear_of_cut(&mut self, line: u64, bytes: &[u8]) {
+    fn hear_of_cut(&mut self, file: &D, line: u64, bytes: &[u8]) {
         tell_of_cut(line, bytes, self.notices);
+        self.cuts.note(file, &*self.notices);
     }
 }

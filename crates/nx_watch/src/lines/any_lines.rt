@@ -6,7 +6,7 @@ ghost use Rattle.std.specs.Prelude.{◌≡◌, ◌+◌, ◌≤◌, ℕ, List, []
 ghost use Rattle.nx_fec.specs.air_files.AirFile.{IsLine, Line};
 ghost use Rattle.nx_fec.specs.air_files.Scanner.{elements_kept};
 ghost use Rattle.nx_watch.specs.Acting.{most_bytes};
-ghost use Rattle.nx_watch.specs.Stamps.{counted_of};
+ghost use Rattle.nx_watch.specs.Stamps.{counted_of, cut_notes};
 ghost use Rattle.nx_watch.specs.private.AnyReading.{HasReadOn, LooksOn, SaysLine};
 ghost use Rattle.nx_watch.specs.private.Scanning.{CutsAs, IsScanning};
 
@@ -101,6 +101,7 @@ impl AnyLines {
         ensures read { HasReadOn R.remaining reader.old reader.new disk.now writer.now notices.now
             self.old self.new result }
         ensures scanner { self.new.scanner ≡ self.old.scanner }
+        ensures cuts { cut_notes reader.new ≡ cut_notes reader.old }
     {
         if self.room == 0 {
             return More::End;

@@ -1,4 +1,5 @@
-use Rattle.std.proofs.Common.{rules, ◌≡◌, List, [], ℕ, inl, inr, refl, subst}
+use Rattle.std.proofs.Common.{arith, rules, ◌≡◌, ◌∙◌, List, [], ℕ, length, take, inl, inr, refl, subst}
+use Rattle.std.proofs.lemmas.List.{take_at}
 use Rattle.std.proofs.lemmas.Result.{err_from_is_err_and}
 use Rattle.nx_kept.specs.Kept.{IsDamaged, first_byte}
 use Rattle.nx_kept.proofs.lemmas.Calls.{file_of, sync_reads}
@@ -6,9 +7,43 @@ use Rattle.nx_kept.proofs.lemmas.Pieces.{on_err}
 use Rattle.nx_kept.proofs.lemmas.Repairing.{read_cause, read_first, repaired}
 use Rattle.nx_kept.proofs.lemmas.Stages.{reads_both, rests}
 use Rattle.nx_kept.proofs.lemmas.Scanning.{nothing_heard}
-use Rattle.nx_kept.proofs.lemmas.Settling.{all_of, is_kept_log, settled_closed, settled_repaired}
+use Rattle.nx_kept.proofs.lemmas.Settling.{all_of, heard_later, is_kept_log, settled_closed, settled_repaired}
 use Rattle.nx_kept.proofs.lemmas.Staying.{reads_stay, repairs_stay}
+use Rattle.nx_kept.specs.Taker.{HeardOfCut, HearsBeforeCut, IsUntouched, cut_of}
 use Rattle.nx_kept.proofs.opening.settle.Goals as goal
+use Rattle.nx_kept.proofs.opening.settle.Goals.{After-repair}
+
+-- once it has been read, the file hasn't been touched
+scanned : (g : _) → (c : After-repair g)
+    → IsUntouched g.D.DiskFile c.args.device.now c.scan.new.device
+scanned g c = λ start.
+    let d = g.D.DiskFile in
+    let f = file_of (d.seen start) (d.may_leave start) d.moment (d.left_since start) in
+    let first = sync_reads f (g.met.D.DiskFile.only_now start c.args.device.now)
+    (record {
+      time = c.sync.ensures.time start;
+      crash = c.sync.ensures.crash start;
+      seen = c.sync.ensures.seen start;
+    }) in
+    reads_both f.moment f.left_since f.may_leave f.seen c.args.device.now c.sync.new.self
+    c.scan.new.device first (c.scan.ensures.only_reads start)
+
+-- and what is cut is told before it is
+told_there : (g : _) → (c : After-repair g)
+    → HeardOfCut (HearsBeforeCut g.D.DiskFile g.T.RecordTaker.hears_of_cut c.args.device.now)
+    c.in_ok-rest.rest.line (cut_of (take c.in_ok-rest.rest.count c.scan.new.buffer))
+    c.scan.new.taker c.repair.new.taker
+told_there g c =
+    let size : length c.scan.new.buffer ≡ c.in_ok-buffer.buffer.len =
+    omega (arith, c.scan.auto.buffer, c.deref_mut.ensures.len) in
+    let same : c.deref.result.now ≡ c.scan.new.buffer =
+    c.deref.ensures.value ∙ take_at c.scan.new.buffer _ c.in_ok-buffer.buffer.len size in
+    subst (λ (l : List ℕ). HeardOfCut
+    (HearsBeforeCut g.D.DiskFile g.T.RecordTaker.hears_of_cut c.args.device.now)
+    c.in_ok-rest.rest.line (cut_of (take c.in_ok-rest.rest.count l)) c.scan.new.taker
+    c.repair.new.taker) same
+    (heard_later g.D.DiskFile g.T.RecordTaker.hears_of_cut (scanned g c)
+    c.repair.ensures.told)
 
 -- the file is being brought to the disk
 pub returns-in_err-sync-clause-synced_first_err : goal.returns-in_err-sync-clause-synced_first_err
@@ -162,9 +197,10 @@ returns-then-rest-clause-settled g c = λ start explains.
       seen = c.sync.ensures.seen start;
     }) in
     settled_closed f g.G.Grammar.is_record g.G.Grammar.LONGEST g.T.RecordTaker.takes
-    g.T.RecordTaker.hears_of_cut first (c.in_ok-sync.ensures.durable start)
-    (c.scan.ensures.only_reads start) c.args.taker.now c.scan.new.taker
-    c.in_ok-rest.rest (c.in_ok-rest.ensures.found start explains) (search rules)
+    (HearsBeforeCut g.D.DiskFile g.T.RecordTaker.hears_of_cut c.args.device.now) first
+    (c.in_ok-sync.ensures.durable start) (c.scan.ensures.only_reads start) c.scan.new.buffer
+    c.args.taker.now c.scan.new.taker c.in_ok-rest.rest (c.in_ok-rest.ensures.found start explains)
+    (search rules)
 
 -- or made
 pub returns-clause-settled : goal.returns-clause-settled
@@ -178,9 +214,11 @@ returns-clause-settled g c = λ start explains.
       seen = c.sync.ensures.seen start;
     }) in
     settled_repaired f g.G.Grammar.is_record g.G.Grammar.LONGEST g.T.RecordTaker.takes
-    g.T.RecordTaker.hears_of_cut first (c.in_ok-sync.ensures.durable start)
-    (c.scan.ensures.only_reads start) c.args.taker.now c.scan.new.taker
-    c.in_ok-rest.rest (c.in_ok-rest.ensures.found start (c.repair.ensures.explained start explains))
+    (HearsBeforeCut g.D.DiskFile g.T.RecordTaker.hears_of_cut c.args.device.now) first
+    (c.in_ok-sync.ensures.durable start) (c.scan.ensures.only_reads start) c.scan.new.buffer
+    c.args.taker.now c.scan.new.taker c.in_ok-rest.rest
+    (c.in_ok-rest.ensures.found start (c.repair.ensures.explained start explains))
+    (told_there g (goal.at.returns-clause-settled g c).After-repair)
     (c.in_ok-repair.ensures.repaired start) (c.in_ok-repair.ensures.durable start)
 
 -- and where that failed, what was to be cut had been heard of
@@ -196,10 +234,11 @@ returns-in_err-repair-clause-taken_err g c = λ start explains.
     }) in
     on_err c.from_residual-in_err-repair.result
     (inr (all_of f g.G.Grammar.is_record g.G.Grammar.LONGEST g.T.RecordTaker.takes
-    g.T.RecordTaker.hears_of_cut first (c.in_ok-sync.ensures.durable start)
-    (c.scan.ensures.only_reads start) c.args.taker.now c.scan.new.taker
-    c.in_ok-rest.rest (c.in_ok-rest.ensures.found start
-    (c.repair.ensures.explained start explains))))
+    (HearsBeforeCut g.D.DiskFile g.T.RecordTaker.hears_of_cut c.args.device.now) first
+    (c.in_ok-sync.ensures.durable start) (c.scan.ensures.only_reads start) c.scan.new.buffer
+    c.args.taker.now c.scan.new.taker c.in_ok-rest.rest
+    (c.in_ok-rest.ensures.found start (c.repair.ensures.explained start explains))
+    (told_there g (goal.at.returns-in_err-repair-clause-taken_err g c).After-repair)))
 
 pub returns-in_err-repair-clause-told_first : goal.returns-in_err-repair-clause-told_first
 returns-in_err-repair-clause-told_first g c = λ start explains same_fault.
@@ -212,10 +251,11 @@ returns-in_err-repair-clause-told_first g c = λ start explains same_fault.
       seen = c.sync.ensures.seen start;
     }) in
     inr (all_of f g.G.Grammar.is_record g.G.Grammar.LONGEST g.T.RecordTaker.takes
-    g.T.RecordTaker.hears_of_cut first (c.in_ok-sync.ensures.durable start)
-    (c.scan.ensures.only_reads start) c.args.taker.now c.scan.new.taker
-    c.in_ok-rest.rest (c.in_ok-rest.ensures.found start
-    (c.repair.ensures.explained start explains)))
+    (HearsBeforeCut g.D.DiskFile g.T.RecordTaker.hears_of_cut c.args.device.now) first
+    (c.in_ok-sync.ensures.durable start) (c.scan.ensures.only_reads start) c.scan.new.buffer
+    c.args.taker.now c.scan.new.taker c.in_ok-rest.rest
+    (c.in_ok-rest.ensures.found start (c.repair.ensures.explained start explains))
+    (told_there g (goal.at.returns-in_err-repair-clause-told_first g c).After-repair))
 
 -- before that, it was only read
 pub returns-in_err-sync-clause-taken_err : goal.returns-in_err-sync-clause-taken_err
@@ -242,7 +282,7 @@ returns-in_err-rest-clause-taken_err g c = λ start explains.
     }) in
     on_err c.from_residual-in_err-rest.result
     (inl (
-      c.in_err-rest.ensures.taken_err,
+      c.scan.ensures.took,
       reads_both f.moment f.left_since f.may_leave f.seen c.args.device.now c.sync.new.self
           c.scan.new.device first (c.scan.ensures.only_reads start),
     ))
@@ -250,13 +290,54 @@ returns-in_err-rest-clause-taken_err g c = λ start explains.
 -- nothing was heard of
 pub returns-in_err-buffer-clause-taken : goal.returns-in_err-buffer-clause-taken
 returns-in_err-buffer-clause-taken g c =
-    nothing_heard g.T.RecordTaker.takes g.T.RecordTaker.hears_of_cut c.args.taker.now
-    c.args.taker.now ([], refl)
+    nothing_heard g.T.RecordTaker.takes
+    (HearsBeforeCut g.D.DiskFile g.T.RecordTaker.hears_of_cut c.args.device.now) c.args.taker.now
+    c.args.taker.now
+    ([], refl)
 
 pub returns-in_err-sync-clause-taken : goal.returns-in_err-sync-clause-taken
 returns-in_err-sync-clause-taken g c =
-    nothing_heard g.T.RecordTaker.takes g.T.RecordTaker.hears_of_cut c.args.taker.now
-    c.args.taker.now ([], refl)
+    nothing_heard g.T.RecordTaker.takes
+    (HearsBeforeCut g.D.DiskFile g.T.RecordTaker.hears_of_cut c.args.device.now) c.args.taker.now
+    c.args.taker.now
+    ([], refl)
+
+pub returns-in_err-rest-clause-taken : goal.returns-in_err-rest-clause-taken
+returns-in_err-rest-clause-taken g c =
+    nothing_heard g.T.RecordTaker.takes
+    (HearsBeforeCut g.D.DiskFile g.T.RecordTaker.hears_of_cut c.args.device.now) c.args.taker.now
+    c.scan.new.taker
+    c.scan.ensures.took
+
+pub returns-then-rest-clause-taken : goal.returns-then-rest-clause-taken
+returns-then-rest-clause-taken g c =
+    nothing_heard g.T.RecordTaker.takes
+    (HearsBeforeCut g.D.DiskFile g.T.RecordTaker.hears_of_cut c.args.device.now) c.args.taker.now
+    c.scan.new.taker
+    c.scan.ensures.took
+
+-- or something was, and before the file was touched
+pub returns-in_err-repair-clause-taken : goal.returns-in_err-repair-clause-taken
+returns-in_err-repair-clause-taken g c = record {
+  given = c.scan.new.taker;
+  taken = c.scan.ensures.took;
+  line = c.in_ok-rest.rest.line;
+  bytes = _;
+  heard = heard_later g.D.DiskFile g.T.RecordTaker.hears_of_cut
+      (scanned g (goal.at.returns-in_err-repair-clause-taken g c).After-repair)
+      c.repair.ensures.told;
+}
+
+pub returns-clause-taken : goal.returns-clause-taken
+returns-clause-taken g c = record {
+  given = c.scan.new.taker;
+  taken = c.scan.ensures.took;
+  line = c.in_ok-rest.rest.line;
+  bytes = _;
+  heard = heard_later g.D.DiskFile g.T.RecordTaker.hears_of_cut
+      (scanned g (goal.at.returns-clause-taken g c).After-repair)
+      c.repair.ensures.told;
+}
 
 -- a file whose end is put right was a kept log
 pub returns-in_err-repair-clause-only_read_err : goal.returns-in_err-repair-clause-only_read_err

@@ -5,7 +5,7 @@ use Rattle.nx_kept.specs.Kept.{line_feed, IsDamaged}
 use Rattle.nx_kept.specs.private.Scan.{IsAtRecord}
 use Rattle.nx_kept.proofs.lemmas.Stages.{reads_on}
 use Rattle.nx_kept.proofs.lemmas.Steps.{record_fits, record_there}
-use Rattle.nx_kept.proofs.lemmas.Scanning.{first_known, nothing_heard, reached_damage, reached_end, reached_more, some_more}
+use Rattle.nx_kept.proofs.lemmas.Scanning.{first_known, reached_damage, reached_end, reached_more, some_more}
 use Rattle.nx_kept.proofs.scan.scan.Goals as goal
 
 pub returns-in_default-clause-only_reads : goal.returns-in_default-clause-only_reads
@@ -163,25 +163,6 @@ gates-preserved g c =
           inv.took c.take.ensures;
     }
 
-pub returns-in-Tail-clause-taken : goal.returns-in-Tail-clause-taken
-returns-in-Tail-clause-taken g c = record {
-  given = c.gates.taker;
-  taken = c.gates.invariant.took;
-  line = c.gates.line;
-  bytes = _;
-  heard = c.tell_of_cut.ensures;
-}
-
-pub returns-in_default-clause-taken : goal.returns-in_default-clause-taken
-returns-in_default-clause-taken g c =
-    nothing_heard g.T.RecordTaker.takes g.T.RecordTaker.hears_of_cut c.args.taker.now c.gates.taker
-    c.gates.invariant.took
-
-pub returns-in-Damaged-clause-taken : goal.returns-in-Damaged-clause-taken
-returns-in-Damaged-clause-taken g c =
-    nothing_heard g.T.RecordTaker.takes g.T.RecordTaker.hears_of_cut c.args.taker.now c.gates.taker
-    c.gates.invariant.took
-
 pub returns-in-Damaged-clause-damaged : goal.returns-in-Damaged-clause-damaged
 returns-in-Damaged-clause-damaged g c = λ start line first explains same.
     let bytes = take c.in-Ok.count c.read_at.new.room in
@@ -240,10 +221,9 @@ returns-in-Tail-clause-found g c = λ start explains.
     shown in
     reached_end g.G.Grammar.is_record g.T.RecordTaker.takes g.G.Grammar.LONGEST
     (g.D.DiskFile.seen start c.args.device.now) c.gates.gate c.gates.line c.args.taker.now
-    g.T.RecordTaker.hears_of_cut c.gates.taker c.tell_of_cut.new.taker
-    (take c.in-Ok.count c.read_at.new.room) c.is_closed_gate-is_closed.result
+    c.gates.taker c.read_at.new.room c.in-Ok.count c.is_closed_gate-is_closed.result
     (c.gates.invariant.reached start (c.read_at.ensures.explained start explains)) shown is
-    c.is_closed_gate-is_closed.ensures c.tell_of_cut.ensures
+    c.is_closed_gate-is_closed.ensures
 
 pub returns-in-Damaged-clause-first : goal.returns-in-Damaged-clause-first
 returns-in-Damaged-clause-first g c = λ start line first explains same.

@@ -1,4 +1,4 @@
-use Rattle.std.proofs.Common.{◌≡◌, false, ◌≤◌, ◌∙◌, [], ℕ, List, Option, Result, Err, ap, append-nil, arith, inl, refl, subst, sym}
+use Rattle.std.proofs.Common.{◌≡◌, false, ◌≤◌, ◌∙◌, [], ℕ, List, Option, Result, Err, ap, append-nil, arith, inl, inr, refl, subst, sym}
 use Rattle.std.proofs.KnownBytes.{Consumes-nil}
 use Rattle.std.specs.Prelude.{unwrap_or}
 use Rattle.std.specs.List.{AllZip}
@@ -15,14 +15,16 @@ use Rattle.nx_watch.specs.CutTold.{TellsOfSomeCut}
 use Rattle.nx_watch.specs.LineRun.{HasTold, TellsOfLines}
 use Rattle.nx_watch.specs.Watch.{AnswersOverBy, HasCause, RefusesLog, starts_at}
 use Rattle.nx_watch.specs.Stamp.{AreTheReads}
-use Rattle.nx_watch.specs.Stamps.{HasStampedReads, IsFresh, counted_of, stamps_of}
+use Rattle.nx_watch.specs.Stamps.{HasStampedReads, IsFresh, counted_of, cut_notes, stamps_of}
+use Rattle.nx_watch.specs.ToldFirst.{ToldBeforeCut}
 use Rattle.nx_watch.specs.declared.stamped.StampedReader.{StampedReader}
+use Rattle.nx_watch.specs.declared.stamped.cut_notes.CutNotes.{CutNotes}
 use Rattle.nx_watch.specs.declared.lines.line_effects.StartMoments.{StartMoments}
 use Rattle.nx_watch.specs.private.Keeping.{HasKept}
 use Rattle.nx_watch.proofs.lemmas.log.Keeping.{fresh-keeper, keeps-stands, kept-none}
 use Rattle.nx_watch.proofs.lemmas.log.Opening.{answers-opening, answers-watch, cause-behind, cause-opening, damage-named, entries-of, has-opened, not-damaged, refuses, same-texts, started-before, started-so}
 use Rattle.nx_watch.proofs.lemmas.log.Remembering.{took-all}
-use Rattle.nx_watch.proofs.lemmas.log.Cutting.{told-first, told-opening, untold-foreign}
+use Rattle.nx_watch.proofs.lemmas.log.Cutting.{but-notes, told-first, told-opening, untold-foreign}
 use Rattle.nx_watch.proofs.left_on.watch_with.Goals as goal
 use Rattle.nx_watch.proofs.left_on.watch_with.Goals.{After-run_watch}
 
@@ -35,6 +37,20 @@ apart line first e = cc
 same-fault : (fault : WatchFault) (line : ℕ) (first : Option ℕ)
     → err fault ≡ err (Damaged line first) → fault ≡ Damaged line first
 same-fault fault line first e = cc
+
+-- a reader with these notes
+abbrev with-cuts : {R D W N : Type 0} → StampedReader R D W N → CutNotes D N
+    → StampedReader R D W N
+with-cuts reader cuts = record {
+  reader = reader.reader;
+  given = reader.given;
+  stamps = reader.stamps;
+  cuts = cuts;
+}
+
+same-reader : {R D W N : Type 0} (reader : StampedReader R D W N) (cuts : CutNotes D N)
+    → cuts ≡ reader.cuts → with-cuts reader cuts ≡ reader
+same-reader reader cuts same = ap (λ (c : CutNotes _ _). with-cuts reader c) same
 
 -- ---- the log can't be opened
 
@@ -49,7 +65,7 @@ returns-in-Err-clause-watched g c = λ start entries ex stands.
     stands.each
     (c.in-Err.ensures.any_moment_err start stands.texts ex stands.stands) refl refl
     (told-opening g.F.Write.contents (disk.seen start c.args.device) c.args.notices.now
-    c.open_log.new.notices c.requires.notices (c.in-Err.ensures.told_err start ex))
+    c.open_log.new.notices c.requires.notices (but-notes (c.in-Err.ensures.told_err start ex)))
     (stamps_of c.args.reader.now) c.requires.reader.none_made in
     rw c.fault_of.ensures
     (answers-opening _ g.C.ChannelReceiver.kind.printing c.args.moment entries fault opened
@@ -77,12 +93,13 @@ returns-in-Err-clause-refused g c = λ start ex none.
 
 pub returns-in-Err-clause-foreign : goal.returns-in-Err-clause-foreign
 returns-in-Err-clause-foreign g c = λ start ex none.
-    let disk = g.D.DiskFile in (
+    let disk = g.D.DiskFile in
+    let untold = untold-foreign g.F.Write.contents (disk.seen start c.args.device)
+    c.args.notices.now c.open_log.new.notices none (c.in-Err.ensures.told_err start ex) in (
       c.in-Err.ensures.only_read_err start ex none,
+      same-reader c.args.reader.now c.open_log.new.cuts untold.1,
       refl,
-      refl,
-      untold-foreign g.F.Write.contents (disk.seen start c.args.device) c.args.notices.now
-          c.open_log.new.notices none (c.in-Err.ensures.told_err start ex),
+      untold.0,
     )
 
 pub returns-in-Err-clause-cause : goal.returns-in-Err-clause-cause
@@ -90,6 +107,10 @@ returns-in-Err-clause-cause g c =
     let disk = g.D.DiskFile in
     subst (λ f. HasCause disk (Err f) c.args.device c.in-Err.device) (sym c.fault_of.ensures)
     (cause-opening disk c.in-Err.fault c.args.device c.in-Err.device c.in-Err.ensures.cause)
+
+pub returns-in-Err-clause-told_first : goal.returns-in-Err-clause-told_first
+returns-in-Err-clause-told_first g c = λ start ex.
+    c.in-Err.ensures.told_first_err start ex c.requires.notices
 
 pub returns-in-Err-clause-within : goal.returns-in-Err-clause-within
 returns-in-Err-clause-within g c = λ start ex. c.in-Err.ensures.within start ex
@@ -164,6 +185,12 @@ pub returns-in_default-clause-explained : goal.returns-in_default-clause-explain
 returns-in_default-clause-explained g c = λ start ex.
     let disk = g.D.DiskFile in
     c.in-Ok.ensures.explained start (subst (disk.explains start) c.answer.ensures.device ex)
+
+pub returns-in_default-clause-told_first : goal.returns-in_default-clause-told_first
+returns-in_default-clause-told_first g c = λ start ex.
+    let disk = g.D.DiskFile in
+    inr (c.in-Ok.ensures.told_first start (subst (disk.explains start) c.answer.ensures.device ex)
+    c.requires.notices)
 
 pub returns-in_default-clause-within : goal.returns-in_default-clause-within
 returns-in_default-clause-within g c = λ start ex other.
@@ -286,6 +313,17 @@ returns-clause-explained g c = λ start ex.
     ((c.run_watch.ensures.runs c.args.notices.now some.0 some.2 c.requires.loggable b.0 refl b.1 b.2
     b.3).explained
     start ex)
+
+pub returns-clause-told_first : goal.returns-clause-told_first
+returns-clause-told_first g c = λ start ex.
+    let disk = g.D.DiskFile in
+    let b = begins g (goal.at.returns-clause-told_first g c).After-run_watch in
+    let some = ran g (goal.at.returns-clause-told_first g c).After-run_watch in
+    let ran-so = c.run_watch.ensures.runs c.args.notices.now some.0 some.2 c.requires.loggable b.0
+    refl b.1 b.2 b.3 in
+    inr (subst (λ notes. ToldBeforeCut disk g.F.Write.contents c.args.device c.args.notices.now
+    (cut_notes c.args.reader.now) notes start) (sym c.run_watch.ensures.cuts)
+    (c.in-Ok.ensures.told_first start (ran-so.explained start ex) c.requires.notices))
 
 pub returns-clause-damaged : goal.returns-clause-damaged
 returns-clause-damaged g c = λ start line first ex e.

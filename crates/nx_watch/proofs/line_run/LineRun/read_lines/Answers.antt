@@ -164,6 +164,7 @@ loop-has_failed-preserved-in-Ok-true g c =
       writer = c.in-Ok-true.ensures.open;
       reader = inv.reader;
       stamps = inv.stamps;
+      cuts = inv.cuts;
       consumed = inv.consumed;
       given = omega (arith, inv.given, same_room);
       room = omega (arith, inv.room, c.in-Ok-true.ensures.room, same_room);
@@ -227,6 +228,7 @@ loop-has_failed-preserved g c =
           (bytes_given c.loop-has_failed.reader) (length c.read.new.self.piece)
           (bytes_given c.read.new.reader) _ _ _ c.in-Bytes.ensures.read.0
           (omega (arith, inv.given, w.given, w.room, same_room, c.requires.limit)) w.few inv.stamps;
+      cuts = c.read.ensures.cuts ∙ inv.cuts;
       consumed = (
         inv.consumed.0 ++ c.read.new.self.piece,
         Consumes-trans _ _ _ _ _ inv.consumed.1 w.consumed,

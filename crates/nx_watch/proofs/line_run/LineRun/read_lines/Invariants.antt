@@ -3,7 +3,7 @@ use Rattle.std.specs.Io.KnownBytes.{Consumes}
 use Rattle.nx_receiver.specs.Listener.{starts_by}
 use Rattle.nx_watch.specs.Acting.{most_bytes}
 use Rattle.nx_watch.specs.Stamp.{AreTheReads}
-use Rattle.nx_watch.specs.Stamps.{bytes_given, counted_of, stamps_of}
+use Rattle.nx_watch.specs.Stamps.{bytes_given, counted_of, cut_notes, stamps_of}
 use Rattle.nx_watch.specs.private.LoggingListener.{LoggingTo, TakesLines, logging_to}
 use Rattle.nx_watch.specs.declared.lines.line_effects.StartMoments.{StartMoments}
 use Rattle.nx_watch.specs.private.Running.{IsBeside, IsRunning, ToldBefore, ToldBeside, beside}
@@ -16,6 +16,7 @@ invariant-loop-has_failed g l = record {
   writer : l.writer.failures ≡ 0;
   reader : (counted_of l.reader).failures ≡ 0;
   stamps : AreTheReads (stamps_of l.reader) (bytes_given l.reader);
+  cuts : cut_notes l.reader ≡ cut_notes l.fn.reader;
   consumed : (bytes : List ℕ)
       × Consumes (g.R.Read.remaining (counted_of l.fn.reader).inner)
       (g.R.Read.remaining (counted_of l.reader).inner) bytes
