@@ -1,3 +1,4 @@
+pub mod ByEachRead
 pub mod AtHand
 pub mod Call
 pub mod Chain

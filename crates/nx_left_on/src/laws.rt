@@ -1,6 +1,6 @@
 //! Laws of a chain of watches of one kept log. Each function does nothing; its contract is the law.
 
-ghost use Rattle.std.specs.Prelude.{◌≡◌, ◌⊎◌, ◌≤◌, ℕ, ◌+◌, Contains, List, [], ◌∷◌, ◌++◌, length, take, Option, Result};
+ghost use Rattle.std.specs.Prelude.{◌≡◌, ◌⊎◌, ◌≤◌, ℕ, ◌+◌, suc, true, false, Contains, List, [], ◌∷◌, ◌++◌, length, take, Option, Result};
 ghost use Rattle.nx_envelope.specs.Message.{MessageView};
 ghost use Rattle.nx_fec.specs.Transfers.{CountedDevice};
 ghost use Rattle.nx_fec.specs.air_files.AirFile.{Line};
@@ -22,6 +22,7 @@ ghost use Rattle.nx_watch.specs.declared.watch_fault.WatchFault.{WatchFault};
 ghost use Rattle.nx_watch.specs.declared.watch_report.WatchReport.{WatchReport};
 ghost use Rattle.nx_watch.specs.Watch.{AnswersWatch, PrintsUntil, StandsForEntries, Stop, starts_at};
 ghost use Rattle.nx_left_on.specs.AtHand.{AtHand, telling};
+ghost use Rattle.nx_left_on.specs.ByEachRead.{HadTold};
 ghost use Rattle.nx_left_on.specs.Call.{IsOfCall, TellsAllKept, all_kept, left_at_any_moment, left_behind};
 ghost use Rattle.nx_left_on.specs.Chain.{ClocksAreNear, GoesOn, HadRead, IsChain, IsLeftBy, Puts, Watch, acting_at, all_copies, all_put, answered, kept_all_at, kept_some_at, stopped, with_copies};
 ghost use Rattle.nx_left_on.specs.Example.{example_watches, first_acting, first_moment, first_watch, kept_bytes, one_entry, second_acting, second_watch};
@@ -106,6 +107,26 @@ pub fn a_crash_behind_a_read_leaves_a_watch<D: DiskFile, R: Read, W: Write, N: W
         → (watch : Watch)
         × IsOfCall (telling D.DiskFile R.remaining W.contents N.contents a).streams now log
         (left_behind at.read) file watch }
+{}
+
+/// What there is to tell stands on the notices of a watch by each read of its input, unless a write
+/// there had failed. It is what the start cuts; then, of the lines that were whole, the first one
+/// without effect, and why it has none. Where a put had failed by then, that is told too.
+pub fn what_there_is_to_tell_is_told_by_each_read<D: DiskFile, R: Read, W: Write, N: Write>()
+    ensures well { (a : AtHand D R W N) (now : ℕ) (log : List MarkedCopy)
+        (outcome : Result WatchReport WatchFault)
+        (at : Stamp D (CountedDevice W) (CountedDevice N))
+        → AnswersWatch (telling D.DiskFile R.remaining W.contents N.contents a) now log outcome
+        → Contains a.stamps at → at.notices.failures ≡ 0
+        → D.faults at.disk ≡ D.faults a.disk
+        → HadTold (telling D.DiskFile R.remaining W.contents N.contents a) now log false at }
+    ensures behind_a_failed_put { (a : AtHand D R W N) (now : ℕ) (log : List MarkedCopy)
+        (outcome : Result WatchReport WatchFault)
+        (at : Stamp D (CountedDevice W) (CountedDevice N))
+        → AnswersWatch (telling D.DiskFile R.remaining W.contents N.contents a) now log outcome
+        → Contains a.stamps at → at.notices.failures ≡ 0
+        → D.faults at.disk ≡ suc (D.faults a.disk)
+        → HadTold (telling D.DiskFile R.remaining W.contents N.contents a) now log true at }
 {}
 
 /// A crash may come at any moment of a call, also before its first read. Whatever `watch` answers,

@@ -1,4 +1,5 @@
 -- Chains of watches and the log that they leave.
+pub mod ByEachRead
 pub mod Chains
 pub mod Files
 pub mod First
