@@ -48,7 +48,7 @@ enum nx_live_status {
  * -DNX_LIVE_BY_WASM2C. */
 #define NX_LIVE_KEPT 26576
 #ifdef NX_LIVE_BY_WASM2C
-#define NX_LIVE_ROOM 86784
+#define NX_LIVE_ROOM 67840
 #else
 #define NX_LIVE_ROOM NX_LIVE_KEPT
 #endif

@@ -4,6 +4,7 @@ pub mod Room
 pub mod Closing
 pub mod Hearing
 pub mod Life
+pub mod Loading
 pub mod Numbers
 pub mod Opening
 pub mod Saving

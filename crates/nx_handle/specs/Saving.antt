@@ -6,9 +6,12 @@ use Rattle.nx_fec.specs.Transfers.{whole_input}
 use Rattle.nx_fec.specs.declared.air_files.channel.Channel.{Channel}
 use Rattle.nx_memory.specs.Memory.{most_entries}
 use Rattle.nx_memory.specs.Saved.{AreSavedStates, SavedStates}
+use Rattle.nx_memory.specs.Selection.{Refused}
+use Rattle.nx_memory.specs.declared.memories.entry.MemoryEntry.{MemoryEntry}
 use Rattle.nx_memory.specs.StateText.{BeginsNoText, BeginsText, IsShortLine, longest_saved_line}
 use Rattle.nx_receiver.specs.air_file_runs.Chain.{Leaves}
 use Rattle.nx_handle.specs.Receivers.{HearsGiven, Listening}
+use Rattle.nx_copies.specs.Events.{Start}
 use Rattle.nx_copies.specs.copies.Shares.{Given, MarkedCopy, Starts, saved_of, share, start_on, starts_from}
 use Rattle.nx_receiver.specs.air_file_runs.State.{BeginsWith, ExplainsState, ended_lines, state_bytes}
 use Rattle.nx_receiver.specs.declared.air_file_runs.state_fault.StateFault.TheVariants as state
@@ -76,6 +79,11 @@ RefusesText bytes why =
     × (why ≡ status.StateLine))
     ⊎ ((line : ℕ) × ExplainsState whole_input bytes (state.StateCut line)
     × (why ≡ status.StateCut))
+
+-- a start with these entries, this moment, and what is refused
+abbrev pub start_with : List MemoryEntry → ℕ → Refused → Start
+start_with entries moment refused =
+    record { entries = entries; moment = moment; refused = refused }
 
 -- These bytes begin with a state, and a receiver is opened that starts with it and has heard
 -- nothing. Or a line of theirs can't stand where it stands, or they end before the state: then the

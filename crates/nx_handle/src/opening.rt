@@ -1,11 +1,10 @@
 //! Opening a receiver, and setting its moment.
 
-ghost use Rattle.std.specs.Prelude.{◌≡◌, ◌≤◌, [], IfErr, OnOk, Some};
+ghost use Rattle.std.specs.Prelude.{◌≡◌, ◌≤◌, [], IfErr, IsSome, OnOk, Some};
 ghost use Rattle.nx_envelope.specs.Moment.{last_moment};
 ghost use Rattle.nx_memory.specs.Memory.{newest_moment};
-ghost use Rattle.nx_memory.specs.Saved.{AreSavedEntries};
-ghost use Rattle.nx_copies.specs.Events.{Start, at_moment};
-ghost use Rattle.nx_copies.specs.copies.Shares.{saved_of, starts_from};
+ghost use Rattle.nx_copies.specs.Events.{Start, at_moment, none_refused};
+ghost use Rattle.nx_copies.specs.copies.Shares.{all_at_zero};
 ghost use Rattle.nx_receiver.specs.Moments.{Refuses};
 ghost use Rattle.nx_receiver.specs.Receiver.{Stands, TakesEvent};
 ghost use Rattle.nx_handle.specs.Life.{HasHeard, hearing};
@@ -15,9 +14,9 @@ ghost use Rattle.nx_handle.specs.Receivers.{OneReceiver, content};
 use crate::kept::Kept;
 use crate::status::Status;
 use arrayvec::ArrayVec;
-use nx_fec::Channel;
-use nx_memory::{PlainRecall, Saved, SavedSet};
+use nx_memory::{PlainRecall, Selection};
 use nx_receiver::{MomentFault, Receiver};
+use std::mem;
 
 /// Opens a receiver at a moment, in whole seconds since 1970-01-01 00:00:00 UTC: it has heard
 /// nothing, remembers nothing, and everything is selected.
@@ -30,7 +29,7 @@ pub fn open(slot: &mut Option<Kept>, moment: u64) -> u32
     if slot.is_some() {
         return Status::AlreadyOpen.number();
     }
-    begin(slot, &SavedSet::new());
+    begin_new(slot);
     let status = set_moment(slot, moment);
     if status == Status::Done.number() {
         return status;
@@ -39,11 +38,22 @@ pub fn open(slot: &mut Option<Kept>, moment: u64) -> u32
     status
 }
 
-/// Opens a receiver that starts with what is saved, and has heard nothing. It is built in its
-/// place, channel by channel: each move of it would take as much of the stack.
+/// Opens a receiver that starts with nothing, and has heard nothing.
+fn begin_new(slot: &mut Option<Kept>)
+    ensures { HasHeard all_at_zero slot.new [] [] }
+{
+    begin_empty(slot);
+    let Some(kept) = slot else { unreachable!() };
+    begin_new_on(&mut kept.on_0);
+    begin_new_on(&mut kept.on_1);
+    begin_new_on(&mut kept.on_2);
+}
+
+/// Opens a receiver that has no receiver of a channel yet. It is built in its place, channel by
+/// channel: each move of it would take as much of the stack.
 #[inline(never)]
-pub(crate) fn begin(slot: &mut Option<Kept>, saved: &SavedSet)
-    ensures { HasHeard (starts_from saved.now) slot.new [] [] }
+pub(crate) fn begin_empty(slot: &mut Option<Kept>)
+    ensures { IsSome slot.new }
 {
     *slot = Some(Kept {
         on_0: None,
@@ -51,49 +61,40 @@ pub(crate) fn begin(slot: &mut Option<Kept>, saved: &SavedSet)
         on_2: None,
         entry: ArrayVec::new(),
     });
-    let Some(kept) = slot else { unreachable!() };
-    begin_all(kept, saved);
 }
 
-/// Gives each channel a receiver that starts with what is saved, and has heard nothing.
-fn begin_all(kept: &mut Kept, saved: &SavedSet)
-    ensures { HasHeard (starts_from saved.now) (Some kept.new) [] [] }
-{
-    let saved_0 = saved_on(saved, Channel::Zero);
-    let saved_1 = saved_on(saved, Channel::One);
-    let saved_2 = saved_on(saved, Channel::Two);
-    let moment = saved.newest().unwrap_or(0);
-    begin_on(&mut kept.on_0, saved_0, moment);
-    begin_on(&mut kept.on_1, saved_1, moment);
-    begin_on(&mut kept.on_2, saved_2, moment);
-}
-
-/// What is saved of a channel.
-fn saved_on(saved: &SavedSet, channel: Channel) -> &Saved
-    ensures kept { result.now ≡ saved_of saved.now channel }
-    ensures sound { AreSavedEntries (saved_of saved.now channel).entries }
-{
-    let Some(kept) = saved.get(channel.number()) else {
-        unreachable!()
-    };
-    kept.count();
-    kept
-}
-
-/// Gives a channel a receiver that starts at this moment with what is saved of the channel, and has
-/// heard nothing.
+/// Gives a channel a receiver that starts with nothing at moment 0, and has heard nothing.
 // A call, so that its stack is free again before the next channel.
 #[inline(never)]
-fn begin_on(place: &mut Option<Receiver<PlainRecall>>, saved: &Saved, moment: u64)
-    requires newest { newest_moment saved.now.entries ≤ moment }
+fn begin_new_on(place: &mut Option<Receiver<PlainRecall>>)
+    ensures { (receiver : OneReceiver) × (place.new ≡ Some receiver)
+        × ((start : Start) → start.entries ≡ [] → start.moment ≡ 0
+        → start.refused ≡ none_refused → Stands content start receiver [] []) }
+{
+    let Ok(receiver) = Receiver::starting(PlainRecall::new(), 0, Selection::all()) else {
+        unreachable!()
+    };
+    *place = Some(receiver);
+}
+
+/// Gives a channel a receiver that starts at this moment with the entries of this memory, which is
+/// left without any, and with this selection, and has heard nothing.
+// A call as well. The memory comes by reference, since a value that is given takes a second place.
+#[inline(never)]
+pub(crate) fn begin_on(
+    place: &mut Option<Receiver<PlainRecall>>,
+    memory: &mut PlainRecall,
+    moment: u64,
+    selection: Selection,
+)
+    requires newest { newest_moment memory.old ≤ moment }
     requires range { moment ≤ last_moment }
     ensures { (receiver : OneReceiver) × (place.new ≡ Some receiver)
-        × ((start : Start) → start.entries ≡ saved.now.entries → start.moment ≡ moment
-        → start.refused ≡ saved.now.refused → Stands content start receiver [] []) }
+        × ((start : Start) → start.entries ≡ memory.old → start.moment ≡ moment
+        → start.refused ≡ selection → Stands content start receiver [] []) }
 {
-    let mut memory = PlainRecall::new();
-    saved.load(&mut memory);
-    let Ok(receiver) = Receiver::starting(memory, moment, saved.selection()) else {
+    let entries = mem::replace(memory, PlainRecall::new());
+    let Ok(receiver) = Receiver::starting(entries, moment, selection) else {
         unreachable!()
     };
     *place = Some(receiver);

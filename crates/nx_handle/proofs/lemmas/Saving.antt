@@ -4,7 +4,9 @@ use Rattle.nx_code.specs.Reading.{newline}
 use Rattle.nx_memory.specs.Saved.{SavedStates}
 use Rattle.nx_memory.specs.StateText.{BeginsNoText, BeginsText, IsShortLine, IsStateText}
 use Rattle.nx_copies.specs.copies.Shares.{starts_from}
-use Rattle.nx_receiver.specs.air_file_runs.State.{BeginsWith, ended_lines}
+use Rattle.nx_fec.specs.Transfers.{whole_input}
+use Rattle.nx_receiver.specs.air_file_runs.State.{AnswersState, BeginsWith, BeginsWithState, ended_lines}
+use Rattle.nx_receiver.proofs.lemmas.state.Answers.{good_answer}
 use Rattle.nx_receiver.proofs.lemmas.state.Splits.{ended-one}
 use Rattle.nx_handle.specs.Life.{HasHeard}
 use Rattle.nx_handle.specs.Saving.{IsFirstLine, OpensFrom, RefusesText, StandsNext}
@@ -12,7 +14,7 @@ use Rattle.nx_handle.specs.Status.{number_of}
 use Rattle.nx_handle.specs.declared.kept.Kept.{Kept}
 use Rattle.nx_handle.specs.declared.status.Status.{Status}
 use Rattle.nx_handle.specs.declared.status.Status.TheVariants as status
-use Rattle.std.specs.Prelude.{Err, slice_index_or}
+use Rattle.std.specs.Prelude.{Err, Ok, slice_index_or}
 use Rattle.std.specs.List.{AllByRecursion}
 use Rattle.std.specs.Str.{bytes_eq}
 use Rattle.std.proofs.lemmas.Bool.{cases_lt, true≢false}
@@ -39,13 +41,54 @@ pub is-none : (receiver : Option Kept) (is_open : Bool) → is_open ≡ is_some 
 is-none None is_open is closed = refl
 is-none (Some kept) is_open is closed = cc
 
-pub opens-from-it : (bytes : List ℕ) (states : SavedStates) (new : Option Kept)
-    → BeginsWith bytes (λ others more. states ≡ others)
-    → HasHeard (starts_from states) new [] [] → OpensFrom bytes new 0
-opens-from-it bytes states new b h =
-    inl (begins-as bytes (λ others more. states ≡ others)
-    (λ others more. (0 ≡ 0) × HasHeard (starts_from others) new [] [])
-    (λ others more same. (refl, subst (λ s. HasHeard (starts_from s) new [] []) same h)) b)
+pub opens-from-it : (bytes : List ℕ) (new : Option Kept)
+    → BeginsWith bytes (λ states more. HasHeard (starts_from states) new [] [])
+    → OpensFrom bytes new 0
+opens-from-it bytes new b =
+    inl (begins-as bytes (λ states more. HasHeard (starts_from states) new [] [])
+    (λ states more. (0 ≡ 0) × HasHeard (starts_from states) new [] [])
+    (λ states more heard. (refl, heard)) b)
+
+-- the answer of reading bytes that begin with a state
+its-answer : (bytes : List ℕ) (P : SavedStates → Type 0)
+    → (b : BeginsWith bytes (λ states more. P states))
+    → AnswersState whole_input bytes (Ok b.states)
+its-answer bytes P b = record {
+  text = b.text;
+  more = b.more;
+  states = b.states;
+  whole = b.whole;
+  stands_for = b.stands_for;
+  here = (refl, tt);
+}
+
+its-state : (bytes : List ℕ) (P : SavedStates → Type 0)
+    → (b : BeginsWith bytes (λ states more. P states))
+    → BeginsWithState bytes b.states
+its-state bytes P b = record {
+  text = b.text;
+  more = b.more;
+  states = b.states;
+  whole = b.whole;
+  stands_for = b.stands_for;
+  here = refl;
+}
+
+-- bytes begin with one state, of which both hold
+pub begins-both : (bytes : List ℕ) (P Q : SavedStates → Type 0)
+    → BeginsWith bytes (λ states more. P states) → BeginsWith bytes (λ states more. Q states)
+    → BeginsWith bytes (λ states more. P states × Q states)
+begins-both bytes P Q b d =
+    let same : d.states ≡ b.states = good_answer (Some bytes) (Ok d.states) (its-answer bytes Q d)
+    b.states (its-state bytes P b) in
+    record {
+      text = b.text;
+      more = b.more;
+      states = b.states;
+      whole = b.whole;
+      stands_for = b.stands_for;
+      here = (b.here, subst Q same d.here);
+    }
 
 pub opens-not : (bytes : List ℕ) (why : Status) (answer : ℕ) → RefusesText bytes why
     → answer ≡ number_of why → OpensFrom bytes None answer

@@ -5,6 +5,6 @@ pub returns : goal.returns
 returns c = (
   c.in-Ok.receiver,
   refl,
-  λ start entries moment refused. c.in-Ok.ensures.stands start (entries ∙ sym c.load.ensures) moment
-      (refused ∙ sym c.selection.ensures.selection),
+  λ start entries moment refused. c.in-Ok.ensures.stands start
+      (entries ∙ sym c.replace-entries.ensures.value) moment refused,
 )
