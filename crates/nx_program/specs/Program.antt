@@ -184,7 +184,7 @@ pub record GivesHelp {R W : Type 0} (arguments : List Text) (d : Devices R W)
 -- of the logic that it is proved with, and a newline
 abbrev pub version_text : List ℕ
 version_text =
-    codes "navtex 1.1.0, proved with rattle-kit-13f logic dac8208d650f15bf" ++ newline ∷ []
+    codes "navtex 1.2.0, proved with rattle-kit-13f logic dac8208d650f15bf" ++ newline ∷ []
 
 -- the arguments ask for the version, nothing was read, and its text was written, whole or as far as
 -- the outcome says

@@ -13,7 +13,7 @@ use std::alloc::{AllocError, Global};
 
 /// The text of the version: the program's name, its version, and what `rt version` says of the kit
 /// and of the logic that it is proved with.
-pub const VERSION: &str = "navtex 1.1.0, proved with rattle-kit-13f logic dac8208d650f15bf\n";
+pub const VERSION: &str = "navtex 1.2.0, proved with rattle-kit-13f logic dac8208d650f15bf\n";
 
 /// What a command takes.
 #[derive(Clone, Copy)]

@@ -76,7 +76,7 @@ fn reads_its_arguments(rt: HostRuntime) {
         (
             &["navtex", "--version"],
             0,
-            "navtex 1.1.0, proved with rattle-kit-13f logic dac8208d650f15bf\n",
+            "navtex 1.2.0, proved with rattle-kit-13f logic dac8208d650f15bf\n",
         ),
         (
             &["navtex", "listen", "--version"],
