@@ -5,6 +5,8 @@
 const NAME = 'navtex';
 const LAST = 'navtex.window'; // where a window that is loaded again finds what it was called
 const PATIENCE = 2000; // milliseconds in which a window that is there answers
+const ROUND = 5000; // milliseconds after which one that looks on asks again who receives
+const MISSED = 3; // so many rounds without an answer say that nobody does
 
 /** A name for this window that no other has. */
 export function newWindow() {
@@ -37,6 +39,8 @@ export class Windows {
     #others;
     #answers = new Map();
     #before = nameBefore();
+    #isClaiming = false;
+    #missed = 0;
     owns = false;
 
     /** `on` is told `lost`, where another window took over; `free`, where the one that received is
@@ -48,15 +52,22 @@ export class Windows {
         if (typeof BroadcastChannel === 'undefined') return; // a window that is lost sees it as it writes
         this.#others = new BroadcastChannel(NAME);
         this.#others.onmessage = ({ data }) => this.#hear(data);
+        setInterval(() => this.#look().catch(() => {}), ROUND);
     }
 
-    /** Whether this window receives from here on: where no other one that is there does. */
+    /** Whether this window receives from here on and didn't before: where no other one that is there does. */
     async claim() {
-        const owner = await this.#store.owner();
-        const isOurs = owner === undefined || owner === this.#window || owner === this.#before;
-        if (!isOurs && await this.#isThere(owner)) return false;
-        this.owns = await this.#store.own(owner, this.#window);
-        return this.owns;
+        if (this.owns || this.#isClaiming) return false;
+        this.#isClaiming = true;
+        try {
+            const owner = await this.#store.owner();
+            const isOurs = owner === undefined || owner === this.#window || owner === this.#before;
+            if (!isOurs && await this.#isThere(owner)) return false;
+            this.owns = await this.#store.own(owner, this.#window);
+            return this.owns;
+        } finally {
+            this.#isClaiming = false;
+        }
     }
 
     /** Receives here, whoever does so now. */
@@ -77,6 +88,20 @@ export class Windows {
         this.#tell({ left: this.#window });
         this.#store.own(this.#window, undefined).catch(() => {});
         keepName(this.#window); // last, since Firefox may end the script of a closed window here
+    }
+
+    /** A window that crashes, or that the browser ends too early, can't say that it is closed. So one that
+     *  looks on asks from time to time whether the one that receives is there. */
+    async #look() {
+        if (this.owns || this.#isClaiming) return;
+        const owner = await this.#store.owner();
+        if (this.owns || this.#isClaiming) return;
+        if (owner !== undefined) {
+            this.#missed = await this.#isThere(owner) ? 0 : this.#missed + 1;
+            if (this.#missed < MISSED) return;
+        }
+        this.#missed = 0;
+        this.#on.free();
     }
 
     #isThere(owner) {

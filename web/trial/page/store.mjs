@@ -167,6 +167,20 @@ async function triesTwoWindows({ browser, tab, address }) {
     await tab.forgetFaults();
 }
 
+/** A window that ends and can't say so, as one that crashes, is missed by another one, which receives then. */
+async function triesGone({ browser, tab, address }) {
+    const other = await browser.tab();
+    await other.openPage(address);
+    await other.press('#take-over');
+    await other.until("document.getElementById('looking').hidden");
+    await tab.until("!document.getElementById('looking').hidden");
+    await other.value("window.addEventListener('pagehide', (event) => event.stopImmediatePropagation(), true); true");
+    await other.close();
+    await tab.until("document.getElementById('looking').hidden");
+    assert.match((await tab.hear(path('ea01.air')))[0], /^ea01.air: 1 message heard/);
+    await tab.forgetFaults();
+}
+
 /** A window that was taken over unseen, as one that slept, writes nothing over what another kept. */
 async function triesLost({ tab }) {
     await tab.value(inStore("rest.put('another', 'owner');"));
@@ -268,5 +282,5 @@ function emptied(tab) {
     })`);
 }
 
-export const trials = () => [triesReloads, triesMany, triesFull, triesOddValues, triesTwoWindows, triesLost,
+export const trials = () => [triesReloads, triesMany, triesFull, triesOddValues, triesTwoWindows, triesGone, triesLost,
     triesServer, triesOlder, triesNewer];
