@@ -164,11 +164,17 @@ class ChromiumTab extends Tab {
     async watchTasks() {
         this.#traced = [];
         await this.call('Tracing.start', TRACED);
-        await this.value(`performance.mark(${JSON.stringify(MARK)})`, false);
+        await this.#mark();
+    }
+
+    /** Marks the page's thread among all that is traced. */
+    #mark() {
+        return this.value(`performance.mark(${JSON.stringify(MARK)})`, false);
     }
 
     /** The milliseconds of a processor that each of them took. */
     async tasks() {
+        await this.#mark(); // again, since on a busy machine the page is traced late
         const whole = new Promise((resolve) => { this.#onTraced = resolve; });
         await this.call('Tracing.end');
         await whole;
