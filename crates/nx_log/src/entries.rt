@@ -4,6 +4,7 @@ pub(crate) mod beginning;
 pub(crate) mod entry;
 pub(crate) mod head;
 pub(crate) mod kept_reader;
+pub(crate) mod lack;
 pub(crate) mod moment;
 pub(crate) mod reader;
 pub(crate) mod start;

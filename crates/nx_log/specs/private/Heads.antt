@@ -28,6 +28,7 @@ pub record IsHead (head : LoggedHead) : Type 0 where
   pub in_range : head.moment ≤ last_moment
   pub few : head.errors ≤ most_found
   pub short : head.characters ≤ most_found
+  pub enough : head.errors ≤ head.characters
 
 -- what heads say of which entry replaces an earlier one
 abbrev pub head_of_message : LoggedHead → LoggedHead → Bool

@@ -1,5 +1,5 @@
 -- An entry piece by piece, from left to right, for bytes that end anywhere in one.
-use Rattle.std.specs.Prelude.{◌≡◌, ◌≢◌, ℕ, ◌≤◌, List, [], ◌∷◌, ◌++◌, length, All, IsTrue, decimal}
+use Rattle.std.specs.Prelude.{◌≡◌, ◌≢◌, ℕ, ◌≤◌, Bool, true, false, List, [], ◌∷◌, ◌++◌, length, All, IsTrue, decimal}
 use Rattle.nx_envelope.specs.Copies.{errors_of, most_found}
 use Rattle.nx_code.specs.Reading.{newline, space}
 use Rattle.nx_envelope.specs.Identity.{identity_bytes}
@@ -10,6 +10,8 @@ use Rattle.nx_fec.specs.declared.air_files.channel.Channel.{Channel}
 use Rattle.nx_copies.specs.copies.Log.{channel_mark, how_name, missing_newline}
 use Rattle.nx_log.specs.Logged.{is_text_byte}
 use Rattle.nx_log.specs.Reading.{bracket}
+use Rattle.nx_log.specs.declared.entries.lack.Lack.{Lack}
+use Rattle.nx_log.specs.declared.entries.lack.Lack.TheVariants.{Unfinished, Broken}
 
 -- a piece of these spellings, and behind it what may stand behind that piece
 pub record Joined {A : Type 0} (piece_is : A → List ℕ → Type 0) (rest_is : A → List ℕ → Type 0)
@@ -21,10 +23,19 @@ pub record Joined {A : Type 0} (piece_is : A → List ℕ → Type 0) (rest_is :
   pub is_rest : rest_is piece rest
   pub split : bytes ≡ spelled ++ rest
 
--- some bytes to come, or none, make the bytes such
-pub record CanBe (holds : List ℕ → Type 0) (bytes : List ℕ) : Type 0 where
-  pub more : List ℕ
-  pub whole : holds (bytes ++ more)
+-- the spelling of some piece
+abbrev pub Spells : {A : Type 0} → (A → List ℕ → Type 0) → List ℕ → Type 0
+Spells {A} piece_is spelled = (piece : A) × piece_is piece spelled
+
+-- What bytes lack that don't begin with such a spelling: its end, which some bytes to come bring;
+-- or they begin with none, whatever comes behind them.
+abbrev pub Lacks : (List ℕ → Type 0) → List ℕ → Lack → Type 0
+Lacks is bytes Unfinished = (more : List ℕ) × is (bytes ++ more) × (more ≢ [])
+Lacks is bytes Broken = (more spelled rest : List ℕ) → is spelled → bytes ++ more ≢ spelled ++ rest
+
+abbrev pub lack_of : Bool → Lack
+lack_of true = Unfinished
+lack_of false = Broken
 
 -- the bytes are the beginning of such a piece, which lacks some at its end
 pub record IsPartOf {A : Type 0} (piece_is : A → List ℕ → Type 0) (bytes : List ℕ) : Type 0 where

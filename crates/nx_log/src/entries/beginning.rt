@@ -1,17 +1,15 @@
-//! Whether bytes are the beginning of an entry, told piece by piece.
+//! Whether bytes are the beginning of a piece of an entry.
 
 ghost use Rattle.std.specs.Prelude.{◌≡◌, ◌↔◌, ℕ, ◌+◌, ◌-◌, ◌≤◌, List, ◌∷◌, ◌++◌, length, drop, IsTrue};
-ghost use Rattle.nx_envelope.specs.Copies.{errors_of, most_found};
+ghost use Rattle.nx_envelope.specs.Copies.{errors_of};
 ghost use Rattle.nx_envelope.specs.Identity.{identity_bytes};
 ghost use Rattle.nx_envelope.specs.declared.identity.Identity.{Identity as TheIdentity};
-ghost use Rattle.nx_log.specs.private.Stages.{CanBe, FromCharacters, FromEnd, FromErrors, FromMark, FromName, FromNewline, FromText, FromTime};
 ghost use Rattle.nx_log.specs.private.Stages.{IsCount, IsEnd, IsMark, IsName, IsPartOf, IsTextOf, IsTime, ShowsSome};
 
 use crate::entries::entry::{errors_in, is_text};
-use crate::entries::head::{behind_newline, count_at, how_at, mark_at, name_at, time_at};
+use crate::entries::head::whole_name;
 use crate::entries::moment::moment_of;
 use itoa::Buffer;
-use nx_copies::entry_end;
 use nx_envelope::{CIVIL_LEN, MAX_FOUND};
 
 /// Endings of a civil time. What begins a civil time is one with the end of the first or of the
@@ -27,101 +25,8 @@ const NAME_LEN: usize = 5;
 /// An ending of a bracket and an identity.
 const NAME_ENDING: &[u8; NAME_LEN] = b"[AA00";
 
-/// Whether some bytes to come, or none, make these an entry.
-pub(crate) fn can_be_entry(bytes: &[u8]) -> bool
-    ensures { IsTrue result ↔ CanBe FromName bytes.now }
-{
-    match name_at(bytes) {
-        Some((_, rest)) => can_be_from_mark(rest),
-        None => is_part_of_name(bytes),
-    }
-}
-
-/// The same of an entry from the mark of its channel on.
-fn can_be_from_mark(bytes: &[u8]) -> bool
-    ensures { IsTrue result ↔ CanBe FromMark bytes.now }
-{
-    match mark_at(bytes) {
-        Some((_, rest)) => can_be_from_time(rest),
-        None => is_part_of_mark(bytes),
-    }
-}
-
-/// The same of an entry from its time on.
-fn can_be_from_time(bytes: &[u8]) -> bool
-    ensures { IsTrue result ↔ CanBe FromTime bytes.now }
-{
-    match time_at(bytes) {
-        Some((_, rest)) => can_be_from_end(rest),
-        None => is_part_of_time(bytes),
-    }
-}
-
-/// The same of an entry from how it ended on.
-fn can_be_from_end(bytes: &[u8]) -> bool
-    ensures { IsTrue result ↔ CanBe FromEnd bytes.now }
-{
-    match how_at(bytes) {
-        Some((_, rest)) => can_be_from_errors(rest),
-        None => is_part_of_end(bytes),
-    }
-}
-
-/// The same of an entry from its errors on.
-fn can_be_from_errors(bytes: &[u8]) -> bool
-    ensures { IsTrue result ↔ CanBe FromErrors bytes.now }
-{
-    match count_at(bytes, b'/') {
-        Some((errors, rest)) => can_be_from_characters(rest, errors),
-        None => is_part_of_count(bytes, 0, b'/'),
-    }
-}
-
-/// The same of an entry from its characters on, behind so many errors, at most 4,100.
-fn can_be_from_characters(bytes: &[u8], errors: u16) -> bool
-    requires { errors ≤ most_found }
-    ensures { IsTrue result ↔ CanBe (FromCharacters errors) bytes.now }
-{
-    match count_at(bytes, b']') {
-        Some((characters, rest)) => {
-            if characters < errors {
-                return false;
-            }
-            can_be_from_newline(rest, errors, characters)
-        }
-        None => is_part_of_count(bytes, errors, b']'),
-    }
-}
-
-/// The same of an entry from the newline behind its head on. Its errors are at most its characters.
-fn can_be_from_newline(bytes: &[u8], errors: u16, characters: u16) -> bool
-    requires { errors ≤ characters }
-    ensures { IsTrue result ↔ CanBe (FromNewline errors characters) bytes.now }
-{
-    match behind_newline(bytes) {
-        Some(rest) => can_be_from_text(rest, errors, characters),
-        None => bytes.is_empty(),
-    }
-}
-
-/// The same of an entry from its text on. Its errors are at most its characters.
-fn can_be_from_text(bytes: &[u8], errors: u16, characters: u16) -> bool
-    requires { errors ≤ characters }
-    ensures { IsTrue result ↔ CanBe (FromText errors characters) bytes.now }
-{
-    match bytes.split_at_checked(usize::from(characters)) {
-        Some((text, rest)) => {
-            if !is_text(text) || errors_in(text) != usize::from(errors) {
-                return false;
-            }
-            is_beginning_of(rest, entry_end(text))
-        }
-        None => is_part_of_text(bytes, usize::from(errors), usize::from(characters)),
-    }
-}
-
 /// Whether the bytes are the beginning of a bracket and an identity, which lacks its end.
-fn is_part_of_name(bytes: &[u8]) -> bool
+pub(crate) fn is_part_of_name(bytes: &[u8]) -> bool
     ensures { IsTrue result ↔ IsPartOf IsName bytes.now }
 {
     if bytes.len() >= NAME_LEN {
@@ -137,21 +42,21 @@ fn begins_with_name(bytes: &[u8]) -> bool
     ensures { IsTrue result ↔ ((identity : TheIdentity) × (more : List ℕ)
         × (bytes.now ≡ (91 ∷ identity_bytes identity) ++ more)) }
 {
-    match name_at(bytes) {
+    match whole_name(bytes) {
         Some(_) => true,
         None => false,
     }
 }
 
 /// Whether the bytes are the beginning of the mark of a channel and a space, which lacks its end.
-fn is_part_of_mark(bytes: &[u8]) -> bool
+pub(crate) fn is_part_of_mark(bytes: &[u8]) -> bool
     ensures { IsTrue result ↔ IsPartOf IsMark bytes.now }
 {
     is_beginning_of(bytes, b"/1") || is_beginning_of(bytes, b"/2")
 }
 
 /// Whether the bytes are the beginning of a civil time and a space, which lacks its end.
-fn is_part_of_time(bytes: &[u8]) -> bool
+pub(crate) fn is_part_of_time(bytes: &[u8]) -> bool
     ensures { IsTrue result ↔ IsPartOf IsTime bytes.now }
 {
     if bytes.len() > CIVIL_LEN {
@@ -184,7 +89,7 @@ fn is_civil(text: &[u8]) -> bool
 }
 
 /// Whether the bytes are the beginning of the name of an end and a space, which lacks its end.
-fn is_part_of_end(bytes: &[u8]) -> bool
+pub(crate) fn is_part_of_end(bytes: &[u8]) -> bool
     ensures { IsTrue result ↔ IsPartOf IsEnd bytes.now }
 {
     if is_beginning_of(bytes, b"full") {
@@ -196,7 +101,7 @@ fn is_part_of_end(bytes: &[u8]) -> bool
 /// Whether the bytes are the beginning of a number from `least` to 4,100 and the byte behind it,
 /// which lacks its end. It goes over all these numbers, since it is asked only where a log breaks
 /// off.
-fn is_part_of_count(bytes: &[u8], least: u16, end: u8) -> bool
+pub(crate) fn is_part_of_count(bytes: &[u8], least: u16, end: u8) -> bool
     ensures { IsTrue result ↔ IsPartOf (IsCount least end) bytes.now }
 {
     for number in least..MAX_FOUND as u16 + 1 {
@@ -208,7 +113,7 @@ fn is_part_of_count(bytes: &[u8], least: u16, end: u8) -> bool
 }
 
 /// Whether the bytes are the beginning of these, or all of them.
-fn is_beginning_of(bytes: &[u8], all: &[u8]) -> bool
+pub(crate) fn is_beginning_of(bytes: &[u8], all: &[u8]) -> bool
     ensures beginning { IsTrue result → all.now ≡ bytes.now ++ drop (length bytes.now) all.now }
     ensures other { (more : List ℕ) → all.now ≡ bytes.now ++ more → IsTrue result }
 {
@@ -217,7 +122,7 @@ fn is_beginning_of(bytes: &[u8], all: &[u8]) -> bool
 
 /// Whether the bytes are the beginning of a text with so many errors, and no fewer characters,
 /// which lacks its end.
-fn is_part_of_text(bytes: &[u8], errors: usize, characters: usize) -> bool
+pub(crate) fn is_part_of_text(bytes: &[u8], errors: usize, characters: usize) -> bool
     requires { errors ≤ characters }
     ensures { IsTrue result ↔ IsPartOf (IsTextOf errors characters) bytes.now }
 {

@@ -1,13 +1,16 @@
 //! An entry of a log, read back.
 
-ghost use Rattle.std.specs.Prelude.{◌≡◌, ◌≢◌, ◌↔◌, ℕ, List, ◌++◌, All, IfNone, IfSome, IsTrue};
+ghost use Rattle.std.specs.Prelude.{◌≡◌, ◌≢◌, ◌↔◌, ℕ, List, ◌++◌, ◌≤◌, All, IfErr, IfNone, IfOk, IfSome, IsTrue};
 ghost use Rattle.nx_envelope.specs.Copies.{errors_of};
 ghost use Rattle.nx_copies.specs.copies.Shares.{MarkedCopy};
 ghost use Rattle.nx_log.specs.Entries.{IsWholeEntry};
 ghost use Rattle.nx_log.specs.Logged.{IsLoggedAs, is_text_byte as the_is_text_byte};
 ghost use Rattle.nx_log.specs.View.{IsViewOf};
+ghost use Rattle.nx_log.specs.private.Stages.{FromName, IsTextOf, Lacks, Spells};
 
-use crate::entries::head::{LoggedHead, head_at};
+use crate::entries::beginning::is_part_of_text;
+use crate::entries::head::{LoggedHead, head_at, literal_at};
+use crate::entries::lack::Lack;
 use nx_code::char_to_code;
 use nx_copies::entry_end;
 
@@ -32,17 +35,43 @@ pub fn entry_at(bytes: &[u8]) -> Option<EntryView>
     ensures none { IfNone result ((one : MarkedCopy) (entry more : List ℕ) → IsLoggedAs one entry
         → bytes.now ≢ entry ++ more) }
 {
-    let (head, rest) = head_at(bytes)?;
-    let (text, rest) = rest.split_at_checked(usize::from(head.characters))?;
-    if !is_text(text) || errors_in(text) != usize::from(head.errors) {
-        return None;
+    match read_entry(bytes) {
+        Ok(view) => Some(view),
+        Err(_) => None,
     }
-    let rest = rest.strip_prefix(entry_end(text))?;
-    Some(EntryView {
+}
+
+/// The logged entry with which the bytes begin, whatever stands behind it; or what they lack of
+/// one.
+pub(crate) fn read_entry(bytes: &[u8]) -> Result<EntryView, Lack>
+    ensures found { IfOk result (IsViewOf bytes.now) }
+    ensures lacks { IfErr result (λ lack. Lacks FromName bytes.now lack) }
+{
+    let (head, rest) = head_at(bytes)?;
+    let (text, rest) = text_at(rest, head.errors, head.characters)?;
+    let rest = literal_at(rest, entry_end(text))?;
+    Ok(EntryView {
         head,
         text,
         len: bytes.len() - rest.len(),
     })
+}
+
+/// The text of so many errors and characters with which the bytes begin, and what stands behind; or
+/// what they lack of one. The errors are at most the characters.
+fn text_at(bytes: &[u8], errors: u16, characters: u16) -> Result<(&[u8], &[u8]), Lack>
+    requires { errors ≤ characters }
+    ensures found { IfOk result (λ found. (bytes.now ≡ found.0.now ++ found.1.now)
+        × IsTextOf errors characters found.0.now found.0.now) }
+    ensures lacks { IfErr result (λ lack.
+        Lacks (Spells (IsTextOf errors characters)) bytes.now lack) }
+{
+    let (errors, characters) = (usize::from(errors), usize::from(characters));
+    match bytes.split_at_checked(characters) {
+        Some((text, rest)) if is_text(text) && errors_in(text) == errors => Ok((text, rest)),
+        Some(_) => Err(Lack::Broken),
+        None => Err(Lack::of(is_part_of_text(bytes, errors, characters))),
+    }
 }
 
 /// The logged entry that these bytes are, all of them. Its text isn't judged again.
@@ -50,7 +79,7 @@ pub(crate) fn whole_entry(bytes: &[u8]) -> EntryView
     requires { IsWholeEntry bytes.now }
     ensures { IsViewOf bytes.now result }
 {
-    let Some((head, rest)) = head_at(bytes) else {
+    let Ok((head, rest)) = head_at(bytes) else {
         unreachable!()
     };
     EntryView {

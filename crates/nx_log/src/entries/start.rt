@@ -1,11 +1,12 @@
 //! What stands where an entry is to begin.
 
-ghost use Rattle.std.specs.Prelude.{◌+◌, ◌<◌, length, take};
 ghost use Rattle.nx_log.specs.Starts.{StartsAs};
-ghost use Rattle.nx_log.specs.private.Stages.{CanBe, FromName};
+ghost use Rattle.nx_log.specs.private.Stages.{FromName, Lacks};
+ghost use Rattle.nx_log.specs.declared.entries.lack.Lack.TheVariants.{Broken as LackBroken};
+ghost use Rattle.nx_log.specs.declared.entries.start.EntryStart.TheVariants.{Broken};
 
-use crate::entries::beginning::can_be_entry;
-use crate::entries::entry::entry_at;
+use crate::entries::entry::read_entry;
+use crate::entries::lack::Lack;
 
 /// What stands where an entry is to begin.
 #[derive(Clone, Copy, Debug, Drop, PartialEq, Eq)]
@@ -23,33 +24,27 @@ pub enum EntryStart {
 pub fn entry_start(bytes: &[u8]) -> EntryStart
     ensures { StartsAs bytes.now result }
 {
-    match entry_at(bytes) {
-        Some(view) => EntryStart::Whole(view.len),
-        None => {
-            if can_be_entry(bytes) {
-                return EntryStart::Unfinished;
-            }
-            EntryStart::Broken(broken_at(bytes))
-        }
+    match read_entry(bytes) {
+        Ok(view) => EntryStart::Whole(view.len),
+        Err(Lack::Unfinished) => EntryStart::Unfinished,
+        Err(Lack::Broken) => EntryStart::Broken(broken_at(bytes)),
     }
 }
 
-/// How many of the bytes are the beginning of an entry, where all of them aren't: with one more
-/// they aren't either.
+/// How many of the bytes are the beginning of an entry: with one more they aren't, whatever comes
+/// behind them.
 fn broken_at(bytes: &[u8]) -> usize
-    requires { ¬ CanBe FromName bytes.now }
-    ensures within { result < length bytes.now }
-    ensures good { CanBe FromName (take result bytes.now) }
-    ensures bad { ¬ CanBe FromName (take (result + 1) bytes.now) }
+    requires { Lacks FromName bytes.now LackBroken }
+    ensures { StartsAs bytes.now (Broken result) }
 {
     let mut good = 0;
     let mut bad = bytes.len();
     while bad - good > 1 {
         let middle = good + (bad - good) / 2;
-        if can_be_entry(&bytes[..middle]) {
-            good = middle;
-        } else {
-            bad = middle;
+        match read_entry(&bytes[..middle]) {
+            Err(Lack::Unfinished) => good = middle,
+            Err(Lack::Broken) => bad = middle,
+            Ok(_) => bad = middle,
         }
     }
     good

@@ -55,11 +55,3 @@ part_of_longer xs bytes more x e some =
                 ∙ sym (append-nil bytes);
           }
     ]
-
--- what begins a list of one element, and lacks some of it, is empty
-pub begins_one : (bytes more : List ℕ) (x : ℕ) → more ≢ [] → bytes ++ more ≡ x ∷ [] → bytes ≡ []
-begins_one bytes more x some e =
-    let whole = ap length e in
-    let parts = length-append bytes more in
-    let has = some_elements more some in
-    no_elements bytes (omega arith)

@@ -1,5 +1,5 @@
--- An entry stage by stage: what bytes can be, by the piece with which they begin.
-use Rattle.std.proofs.Common.{◌≡◌, ◌≢◌, inl, inr, ℕ, ◌+◌, ◌-◌, ◌<◌, ◌≤◌, Bool, true, List, [], ◌∷◌, ◌++◌, length, drop, ap, sym, ◌∙◌, refl, subst, arith, lit<, lit≤, append_assoc, cond, ◌*◌}
+-- An entry stage by stage: what bytes lack of one, by the piece with which they begin.
+use Rattle.std.proofs.Common.{◌≡◌, ◌≢◌, ◌⊎◌, inl, inr, ℕ, ◌+◌, ◌-◌, ◌<◌, ◌≤◌, Bool, true, List, [], ◌∷◌, ◌++◌, length, drop, ap, sym, ◌∙◌, refl, subst, arith, lit<, lit≤, append_assoc, cond, ◌*◌}
 use Rattle.std.specs.Prelude.{◌↔◌, ◌==◌, All, IsTrue, decimal, replicate}
 use Rattle.std.proofs.lemmas.List.{length-append, length-replicate}
 use Rattle.std.proofs.lemmas.List.Folds.{sum_by-replicate}
@@ -18,11 +18,15 @@ use Rattle.nx_fec.specs.declared.air_files.channel.Channel.{Channel}
 use Rattle.nx_fec.specs.declared.air_files.channel.Channel.TheVariants.{Zero}
 use Rattle.nx_copies.specs.copies.Log.{channel_mark, how_name, missing_newline}
 use Rattle.nx_log.specs.Logged.{is_text_byte}
-use Rattle.nx_log.specs.private.Stages.{CanBe, FromCharacters, FromEnd, FromErrors, FromMark, FromName, FromNewline, FromText, FromTime, IsBehindText, IsCount, IsEnd, IsMark, IsName, IsNewline, IsPartOf, IsTextOf, IsTime}
+use Rattle.nx_log.specs.private.Stages.{FromCharacters, FromEnd, FromErrors, FromMark, FromName, FromNewline, FromText, FromTime, IsBehindText, IsCount, IsEnd, IsMark, IsName, IsNewline, IsPartOf, IsTextOf, IsTime, Lacks, Spells, lack_of}
 use Rattle.nx_log.proofs.lemmas.texts.Moments.{same_time}
 use Rattle.nx_log.proofs.lemmas.beginnings.Dates.{first_ending, first_shown}
-use Rattle.nx_log.proofs.lemmas.beginnings.Joins.{behind_piece, within_piece}
-use Rattle.nx_log.proofs.lemmas.beginnings.Lists.{Extends, begins_one, ends_with_one}
+use Rattle.nx_log.specs.declared.entries.head.LoggedHead.{LoggedHead}
+use Rattle.nx_log.specs.declared.entries.lack.Lack.{Lack}
+use Rattle.nx_log.specs.declared.entries.lack.Lack.TheVariants.{Unfinished, Broken}
+use Rattle.nx_log.specs.private.Heads.{BeginsWithHead, IsHead}
+use Rattle.nx_log.proofs.lemmas.beginnings.Joins.{lacks_behind, lacks_piece, lacks_same, lacks_within}
+use Rattle.nx_log.proofs.lemmas.reading.Heads.{characters_and, errors_and, how_and, mark_and, time_and_rest}
 use Rattle.nx_log.proofs.lemmas.reading.Pieces.{same_mark, same_name, same_decimal, same_text}
 
 -- ---- each stage can be begun, so that a part of a piece can go on
@@ -191,24 +195,24 @@ some_mark = (
 some_letter : Letter
 some_letter = record { byte = 65; in_range = (lit≤ tt, lit≤ tt) }
 
--- some bytes are an entry, so the empty list can be one
-pub nothing_can_be : CanBe FromName []
-nothing_can_be =
+-- no bytes are the beginning of an entry
+pub nothing_lacks : Lacks FromName [] Unfinished
+nothing_lacks =
     let identity : Identity = record
-    { b1 = some_letter; b2 = some_letter; number = 0; two_digits = lit≤ tt } in
-    record {
-      more = (91 ∷ identity_bytes identity) ++ some_mark.0;
-      whole = record {
+    { b1 = some_letter; b2 = some_letter; number = 0; two_digits = lit≤ tt } in (
+      (91 ∷ identity_bytes identity) ++ some_mark.0,
+      record {
         piece = identity;
         spelled = 91 ∷ identity_bytes identity;
         rest = some_mark.0;
         is_piece = refl;
         is_rest = some_mark.1;
         split = refl;
-      };
-    }
+      },
+      λ n. omega (arith, ap length n),
+    )
 
--- ---- the stages
+-- ---- the pieces
 
 -- a piece that ends with one byte
 pub with_end : (bytes piece rest : List ℕ) (x : ℕ) → bytes ≡ piece ++ (x ∷ rest)
@@ -226,206 +230,219 @@ both_ends : (piece other t x y : List ℕ) (c d : ℕ) → t ≡ other ++ d ∷ 
 both_ends piece other t x y c d is e =
     sym (append_assoc piece (c ∷ []) x) ∙ e ∙ ap (λ l. l ++ y) is ∙ append_assoc other (d ∷ []) y
 
+-- what is lacked of a piece with which the bytes don't begin
 module _ (bytes : List ℕ) (b : Bool) where
-  pub behind_name : (identity : Identity) (rest : List ℕ)
-      → bytes ≡ (91 ∷ identity_bytes identity) ++ rest → (IsTrue b ↔ CanBe FromMark rest)
-      → IsTrue b ↔ CanBe FromName bytes
-  behind_name identity rest e tells =
-      behind_piece IsName (λ i. FromMark) bytes b identity (91 ∷ identity_bytes identity) rest refl
-      e
-      (λ other t x y is same f. subst FromMark
-      (sym (ap (drop 5) (same ∙ ap (λ l. l ++ y) is))) f) tells
-
-  pub behind_mark : (channel : Channel) (rest : List ℕ)
-      → bytes ≡ channel_mark channel ++ (32 ∷ rest) → (IsTrue b ↔ CanBe FromTime rest)
-      → IsTrue b ↔ CanBe FromMark bytes
-  behind_mark channel rest e tells =
-      behind_piece IsMark (λ c. FromTime) bytes b channel (channel_mark channel ++ 32 ∷ []) rest
-      refl
-      (with_end bytes (channel_mark channel) rest 32 e)
-      (λ other t x y is same f. subst FromTime
-      (sym (same_mark channel other x y
-      (both_ends (channel_mark channel) (channel_mark other) t x y 32 32 is same)).rest) f) tells
-
-  pub behind_time : (moment : ℕ) (civil rest : List ℕ) → moment ≤ last_moment
-      → IsShownAs moment civil → bytes ≡ civil ++ (32 ∷ rest) → (IsTrue b ↔ CanBe FromEnd rest)
-      → IsTrue b ↔ CanBe FromTime bytes
-  behind_time moment civil rest small shown e tells =
-      behind_piece IsTime (λ m. FromEnd) bytes b moment (civil ++ 32 ∷ []) rest
-      (record { civil = civil; in_range = small; shown = shown; is_spelled = refl })
-      (with_end bytes civil rest 32 e)
-      (λ other t x y is same f. subst FromEnd
-      (sym (ap (drop 1) (same_time moment other civil is.civil (32 ∷ x) (32 ∷ y) shown is.shown
-      (both_ends civil is.civil t x y 32 32 is.is_spelled same)).rest)) f) tells
-
-  pub behind_end : (how : How) (rest : List ℕ) → bytes ≡ how_name how ++ (32 ∷ rest)
-      → (IsTrue b ↔ CanBe FromErrors rest) → IsTrue b ↔ CanBe FromEnd bytes
-  behind_end how rest e tells =
-      behind_piece IsEnd (λ h. FromErrors) bytes b how (how_name how ++ 32 ∷ []) rest refl
-      (with_end bytes (how_name how) rest 32 e)
-      (λ other t x y is same f. subst FromErrors
-      (sym (same_name how other x y
-      (both_ends (how_name how) (how_name other) t x y 32 32 is same)).rest) f) tells
-
-  pub behind_errors : (n : ℕ) (rest : List ℕ) → n ≤ 4100 → bytes ≡ decimal n ++ (47 ∷ rest)
-      → (IsTrue b ↔ CanBe (FromCharacters n) rest) → IsTrue b ↔ CanBe FromErrors bytes
-  behind_errors n rest few e tells =
-      behind_piece (IsCount 0 47) FromCharacters bytes b n (decimal n ++ 47 ∷ []) rest
-      (record { enough = omega arith; few = few; is_spelled = refl })
-      (with_end bytes (decimal n) rest 47 e)
-      (λ other t x y is same f.
-      let small = is.few in
-      let one = same_decimal n other 47 x y (omega arith) (omega arith) (inl (lit< tt))
-      (both_ends (decimal n) (decimal other) t x y 47 47 is.is_spelled same) in
-      subst (FromCharacters n) (sym one.rest) (subst (λ k. FromCharacters k y) (sym one.piece) f))
-      tells
-
-  pub behind_characters : (errors n : ℕ) (rest : List ℕ) → errors ≤ n → n ≤ 4100
-      → bytes ≡ decimal n ++ (93 ∷ rest) → (IsTrue b ↔ CanBe (FromNewline errors n) rest)
-      → IsTrue b ↔ CanBe (FromCharacters errors) bytes
-  behind_characters errors n rest enough few e tells =
-      behind_piece (IsCount errors 93) (FromNewline errors) bytes b n (decimal n ++ 93 ∷ []) rest
-      (record { enough = enough; few = few; is_spelled = refl })
-      (with_end bytes (decimal n) rest 93 e)
-      (λ other t x y is same f.
-      let small = is.few in
-      let one = same_decimal n other 93 x y (omega arith) (omega arith) (inr (lit< tt))
-      (both_ends (decimal n) (decimal other) t x y 93 93 is.is_spelled same) in
-      subst (FromNewline errors n) (sym one.rest)
-      (subst (λ k. FromNewline errors k y) (sym one.piece) f)) tells
-
-  pub behind_newline : (errors n : ℕ) (rest : List ℕ) → bytes ≡ newline ∷ rest
-      → (IsTrue b ↔ CanBe (FromText errors n) rest) → IsTrue b ↔ CanBe (FromNewline errors n) bytes
-  behind_newline errors n rest e tells =
-      behind_piece IsNewline (λ none. FromText errors n) bytes b tt (newline ∷ []) rest refl e
-      (λ other t x y is same f. subst (FromText errors n)
-      (sym (ap (drop 1) (same ∙ ap (λ l. l ++ y) is))) f) tells
-
-  -- where the piece isn't whole
-
-  pub within_name : ((identity : Identity) (more : List ℕ)
+  pub lacks_name : ((identity : Identity) (more : List ℕ)
       → bytes ≢ (91 ∷ identity_bytes identity) ++ more) → (IsTrue b ↔ IsPartOf IsName bytes)
-      → IsTrue b ↔ CanBe FromName bytes
-  within_name none tells =
-      within_piece IsName (λ i. FromMark) bytes b
-      (λ identity t more is e. none identity more (e ∙ ap (λ l. l ++ more) is))
-      (λ identity t is. some_mark) tells
+      → Lacks (Spells IsName) bytes (lack_of b)
+  lacks_name none tells =
+      lacks_piece IsName bytes b
+      (λ identity t more is e. none identity more (e ∙ ap (λ l. l ++ more) is)) tells
 
-  pub within_mark : ((channel : Channel) (more : List ℕ)
+  pub lacks_mark : ((channel : Channel) (more : List ℕ)
       → bytes ≢ channel_mark channel ++ (32 ∷ more)) → (IsTrue b ↔ IsPartOf IsMark bytes)
-      → IsTrue b ↔ CanBe FromMark bytes
-  within_mark none tells =
-      within_piece IsMark (λ c. FromTime) bytes b
+      → Lacks (Spells IsMark) bytes (lack_of b)
+  lacks_mark none tells =
+      lacks_piece IsMark bytes b
       (λ channel t more is e. none channel more
-      (without_end bytes (channel_mark channel) t more 32 is e))
-      (λ channel t is. first_time) tells
+      (without_end bytes (channel_mark channel) t more 32 is e)) tells
 
-  pub within_time : ((moment : ℕ) (civil more : List ℕ) → moment ≤ last_moment
+  pub lacks_time : ((moment : ℕ) (civil more : List ℕ) → moment ≤ last_moment
       → IsShownAs moment civil → bytes ≢ civil ++ (32 ∷ more)) → (IsTrue b ↔ IsPartOf IsTime bytes)
-      → IsTrue b ↔ CanBe FromTime bytes
-  within_time none tells =
-      within_piece IsTime (λ m. FromEnd) bytes b
+      → Lacks (Spells IsTime) bytes (lack_of b)
+  lacks_time none tells =
+      lacks_piece IsTime bytes b
       (λ moment t more is e. none moment is.civil more is.in_range is.shown
-      (without_end bytes is.civil t more 32 is.is_spelled e))
-      (λ moment t is. some_end) tells
+      (without_end bytes is.civil t more 32 is.is_spelled e)) tells
 
-  pub within_end : ((how : How) (more : List ℕ) → bytes ≢ how_name how ++ (32 ∷ more))
-      → (IsTrue b ↔ IsPartOf IsEnd bytes) → IsTrue b ↔ CanBe FromEnd bytes
-  within_end none tells =
-      within_piece IsEnd (λ h. FromErrors) bytes b
-      (λ how t more is e. none how more (without_end bytes (how_name how) t more 32 is e))
-      (λ how t is. some_errors) tells
+  pub lacks_end : ((how : How) (more : List ℕ) → bytes ≢ how_name how ++ (32 ∷ more))
+      → (IsTrue b ↔ IsPartOf IsEnd bytes) → Lacks (Spells IsEnd) bytes (lack_of b)
+  lacks_end none tells =
+      lacks_piece IsEnd bytes b
+      (λ how t more is e. none how more (without_end bytes (how_name how) t more 32 is e)) tells
 
-  pub within_errors : ((n : ℕ) (more : List ℕ) → n ≤ 4100 → bytes ≢ decimal n ++ (47 ∷ more))
-      → (IsTrue b ↔ IsPartOf (IsCount 0 47) bytes) → IsTrue b ↔ CanBe FromErrors bytes
-  within_errors none tells =
-      within_piece (IsCount 0 47) FromCharacters bytes b
-      (λ n t more is e. none n more is.few
-      (without_end bytes (decimal n) t more 47 is.is_spelled e))
-      (λ n t is. some_characters n is.few) tells
+  pub lacks_count : (least end : ℕ)
+      → ((n : ℕ) (more : List ℕ) → least ≤ n → n ≤ 4100 → bytes ≢ decimal n ++ (end ∷ more))
+      → (IsTrue b ↔ IsPartOf (IsCount least end) bytes)
+      → Lacks (Spells (IsCount least end)) bytes (lack_of b)
+  lacks_count least end none tells =
+      lacks_piece (IsCount least end) bytes b
+      (λ n t more is e. none n more is.enough is.few
+      (without_end bytes (decimal n) t more end is.is_spelled e)) tells
 
-  pub within_characters : (errors : ℕ)
-      → ((n : ℕ) (more : List ℕ) → n ≤ 4100 → bytes ≢ decimal n ++ (93 ∷ more))
-      → (IsTrue b ↔ IsPartOf (IsCount errors 93) bytes)
-      → IsTrue b ↔ CanBe (FromCharacters errors) bytes
-  within_characters errors none tells =
-      within_piece (IsCount errors 93) (FromNewline errors) bytes b
-      (λ n t more is e. none n more is.few
-      (without_end bytes (decimal n) t more 93 is.is_spelled e))
-      (λ n t is. some_newline errors n is.enough) tells
-
-  pub within_newline : (errors n : ℕ) → errors ≤ n → ((more : List ℕ) → bytes ≢ newline ∷ more)
-      → (IsTrue b ↔ (bytes ≡ [])) → IsTrue b ↔ CanBe (FromNewline errors n) bytes
-  within_newline errors n enough none tells =
-      within_piece IsNewline (λ none. FromText errors n) bytes b
-      (λ piece t more is e. none more (e ∙ ap (λ l. l ++ more) is))
-      (λ piece t is. some_text errors n enough) (
-        λ yes. record {
-          piece = tt;
-          more = newline ∷ [];
-          is_piece = ap (λ l. l ++ newline ∷ []) (tells.0 yes);
-          lacks = ends_with_one [] newline;
-        },
-        λ part. tells.1 (begins_one bytes part.more newline part.lacks part.is_piece),
-      )
-
-  -- a text that is whole
-  pub behind_text : (errors n : ℕ) (text rest : List ℕ) → bytes ≡ text ++ rest → length text ≡ n
-      → (IsTrue b → All (λ byte. IsTrue (is_text_byte byte)) text × (errors_of text ≡ errors)
-      × Extends rest (missing_newline text ++ newline ∷ []))
-      → (All (λ byte. IsTrue (is_text_byte byte)) text → errors_of text ≡ errors
-      → Extends rest (missing_newline text ++ newline ∷ []) → IsTrue b)
-      → IsTrue b ↔ CanBe (FromText errors n) bytes
-  behind_text errors n text rest e long tells told = (
-    λ yes. let is = tells yes in
-        record {
-          more = is.2.more;
-          whole = record {
-            piece = text;
-            spelled = text;
-            rest = rest ++ is.2.more;
-            is_piece = record
-                { letters = is.0; has_errors = is.1; has_characters = long; is_spelled = refl };
-            is_rest = sym is.2.is;
-            split = ap (λ l. l ++ is.2.more) e ∙ append_assoc text rest is.2.more;
-          };
-        },
-    λ can. let j = can.whole in
-        let one = same_text text j.piece (rest ++ can.more) j.rest
-        (long ∙ sym j.is_piece.has_characters)
-        (sym (append_assoc text rest can.more) ∙ ap (λ l. l ++ can.more) (sym e) ∙ j.split
-        ∙ ap (λ l. l ++ j.rest) j.is_piece.is_spelled) in
-        told (subst (All (λ byte. IsTrue (is_text_byte byte))) (sym one.piece) j.is_piece.letters)
-        (ap errors_of one.piece ∙ j.is_piece.has_errors)
-        (record {
-          more = can.more;
-          is = ap (λ t. missing_newline t ++ newline ∷ []) one.piece ∙ sym j.is_rest ∙ sym one.rest;
-        }),
-  )
-
-  -- a text that isn't
-  pub within_text : (errors n : ℕ) → length bytes < n
+  pub lacks_text : (errors n : ℕ) → length bytes < n
       → (IsTrue b ↔ IsPartOf (IsTextOf errors n) bytes)
-      → IsTrue b ↔ CanBe (FromText errors n) bytes
-  within_text errors n short tells =
-      within_piece (IsTextOf errors n) IsBehindText bytes b
+      → Lacks (Spells (IsTextOf errors n)) bytes (lack_of b)
+  lacks_text errors n short tells =
+      lacks_piece (IsTextOf errors n) bytes b
       (λ text t more is e.
       let long = ap length e ∙ length-append t more in
       let whole = ap length is.is_spelled ∙ is.has_characters in
-      omega (arith, long, whole))
-      (λ text t is. (missing_newline text ++ newline ∷ [], refl)) tells
+      omega (arith, long, whole)) tells
 
--- fewer characters than errors
-pub too_few : (bytes rest : List ℕ) (errors n : ℕ) → n < errors → n ≤ 4100
-    → bytes ≡ decimal n ++ (93 ∷ rest) → ¬ CanBe (FromCharacters errors) bytes
-too_few bytes rest errors n less few e can =
-    let j = can.whole in
-    let small = j.is_piece.few in
-    let enough = j.is_piece.enough in
-    let one = same_decimal n j.piece 93 (rest ++ can.more) j.rest (omega arith) (omega arith)
-    (inr (lit< tt))
-    (both_ends (decimal n) (decimal j.piece) j.spelled (rest ++ can.more) j.rest 93 93
-    j.is_piece.is_spelled
-    (sym (append_assoc (decimal n ++ 93 ∷ []) rest can.more)
-    ∙ ap (λ l. l ++ can.more) (sym (with_end bytes (decimal n) rest 93 e)) ∙ j.split)) in
+-- fewer characters than errors are none
+pub too_few : (bytes rest : List ℕ) (least end n k : ℕ) (more : List ℕ)
+    → (end < 48) ⊎ (57 < end) → n < least → n ≤ 4100 → bytes ≡ decimal n ++ (end ∷ rest)
+    → least ≤ k → k ≤ 4100 → bytes ≢ decimal k ++ (end ∷ more)
+too_few bytes rest least end n k more no_digit less few e enough small f =
+    let one = same_decimal n k end rest more (omega arith) (omega arith) no_digit (sym e ∙ f) in
     omega (arith, one.piece)
+
+-- so many first bytes are no such text
+pub no_text : (bytes text rest : List ℕ) (errors n : ℕ) → bytes ≡ text ++ rest → length text ≡ n
+    → ¬ (All (λ byte. IsTrue (is_text_byte byte)) text × (errors_of text ≡ errors))
+    → Lacks (Spells (IsTextOf errors n)) bytes Broken
+no_text bytes text rest errors n e long never =
+    λ more spelled y is f.
+    let piece = is.1 in
+    let one = same_text text is.0 (rest ++ more) y (long ∙ sym piece.has_characters)
+    (sym (append_assoc text rest more) ∙ ap (λ l. l ++ more) (sym e) ∙ f
+    ∙ ap (λ l. l ++ y) piece.is_spelled) in
+    never (
+      subst (All (λ byte. IsTrue (is_text_byte byte))) (sym one.piece) piece.letters,
+      ap errors_of one.piece ∙ piece.has_errors,
+    )
+
+-- ---- the stages: what is lacked of an entry from a piece on
+
+module _ (bytes : List ℕ) (lack : Lack) where
+  pub behind_name : (identity : Identity) (rest : List ℕ)
+      → bytes ≡ (91 ∷ identity_bytes identity) ++ rest → Lacks FromMark rest lack
+      → Lacks FromName bytes lack
+  behind_name identity rest e =
+      lacks_behind IsName (λ i. FromMark) bytes lack identity (91 ∷ identity_bytes identity) rest
+      refl e
+      (λ other t x y is same. (ap (drop 5) (same ∙ ap (λ l. l ++ y) is), λ l f. f))
+
+  pub behind_mark : (channel : Channel) (rest : List ℕ)
+      → bytes ≡ channel_mark channel ++ (32 ∷ rest) → Lacks FromTime rest lack
+      → Lacks FromMark bytes lack
+  behind_mark channel rest e =
+      lacks_behind IsMark (λ c. FromTime) bytes lack channel (channel_mark channel ++ 32 ∷ []) rest
+      refl
+      (with_end bytes (channel_mark channel) rest 32 e)
+      (λ other t x y is same. (
+        (same_mark channel other x y
+            (both_ends (channel_mark channel) (channel_mark other) t x y 32 32 is same)).rest,
+        λ l f. f,
+      ))
+
+  pub behind_time : (moment : ℕ) (civil rest : List ℕ) → moment ≤ last_moment
+      → IsShownAs moment civil → bytes ≡ civil ++ (32 ∷ rest) → Lacks FromEnd rest lack
+      → Lacks FromTime bytes lack
+  behind_time moment civil rest small shown e =
+      lacks_behind IsTime (λ m. FromEnd) bytes lack moment (civil ++ 32 ∷ []) rest
+      (record { civil = civil; in_range = small; shown = shown; is_spelled = refl })
+      (with_end bytes civil rest 32 e)
+      (λ other t x y is same. (
+        ap (drop 1) (same_time moment other civil is.civil (32 ∷ x) (32 ∷ y)
+            shown is.shown (both_ends civil is.civil t x y 32 32 is.is_spelled same)).rest,
+        λ l f. f,
+      ))
+
+  pub behind_end : (how : How) (rest : List ℕ) → bytes ≡ how_name how ++ (32 ∷ rest)
+      → Lacks FromErrors rest lack → Lacks FromEnd bytes lack
+  behind_end how rest e =
+      lacks_behind IsEnd (λ h. FromErrors) bytes lack how (how_name how ++ 32 ∷ []) rest refl
+      (with_end bytes (how_name how) rest 32 e)
+      (λ other t x y is same. (
+        (same_name how other x y
+            (both_ends (how_name how) (how_name other) t x y 32 32 is same)).rest,
+        λ l f. f,
+      ))
+
+  pub behind_errors : (n : ℕ) (rest : List ℕ) → n ≤ 4100 → bytes ≡ decimal n ++ (47 ∷ rest)
+      → Lacks (FromCharacters n) rest lack → Lacks FromErrors bytes lack
+  behind_errors n rest few e =
+      lacks_behind (IsCount 0 47) FromCharacters bytes lack n (decimal n ++ 47 ∷ []) rest
+      (record { enough = omega arith; few = few; is_spelled = refl })
+      (with_end bytes (decimal n) rest 47 e)
+      (λ other t x y is same.
+      let small = is.few in
+      let one = same_decimal n other 47 x y (omega arith) (omega arith) (inl (lit< tt))
+      (both_ends (decimal n) (decimal other) t x y 47 47 is.is_spelled same) in
+      (one.rest, λ l f. subst (λ k. FromCharacters k l) (sym one.piece) f))
+
+  pub behind_characters : (errors n : ℕ) (rest : List ℕ) → errors ≤ n → n ≤ 4100
+      → bytes ≡ decimal n ++ (93 ∷ rest) → Lacks (FromNewline errors n) rest lack
+      → Lacks (FromCharacters errors) bytes lack
+  behind_characters errors n rest enough few e =
+      lacks_behind (IsCount errors 93) (FromNewline errors) bytes lack n (decimal n ++ 93 ∷ []) rest
+      (record { enough = enough; few = few; is_spelled = refl })
+      (with_end bytes (decimal n) rest 93 e)
+      (λ other t x y is same.
+      let small = is.few in
+      let one = same_decimal n other 93 x y (omega arith) (omega arith) (inr (lit< tt))
+      (both_ends (decimal n) (decimal other) t x y 93 93 is.is_spelled same) in
+      (one.rest, λ l f. subst (λ k. FromNewline errors k l) (sym one.piece) f))
+
+  pub behind_newline : (errors n : ℕ) (rest : List ℕ) → bytes ≡ newline ∷ rest
+      → Lacks (FromText errors n) rest lack → Lacks (FromNewline errors n) bytes lack
+  behind_newline errors n rest e =
+      lacks_behind IsNewline (λ none. FromText errors n) bytes lack tt (newline ∷ []) rest refl e
+      (λ other t x y is same. (ap (drop 1) (same ∙ ap (λ l. l ++ y) is), λ l f. f))
+
+  pub behind_text : (errors n : ℕ) (text rest : List ℕ) → IsTextOf errors n text text
+      → bytes ≡ text ++ rest → Lacks (IsBehindText text) rest lack
+      → Lacks (FromText errors n) bytes lack
+  behind_text errors n text rest is_text e =
+      lacks_behind (IsTextOf errors n) IsBehindText bytes lack text text rest is_text e
+      (λ other t x y is same.
+      let one = same_text text other x y (is_text.has_characters ∙ sym is.has_characters)
+      (same ∙ ap (λ l. l ++ y) is.is_spelled) in
+      (one.rest, λ l f. subst (λ k. IsBehindText k l) (sym one.piece) f))
+
+  -- where the piece isn't whole
+
+  pub within_name : Lacks (Spells IsName) bytes lack → Lacks FromName bytes lack
+  within_name = lacks_within IsName (λ i. FromMark) bytes lack (λ identity t is. some_mark)
+
+  pub within_mark : Lacks (Spells IsMark) bytes lack → Lacks FromMark bytes lack
+  within_mark = lacks_within IsMark (λ c. FromTime) bytes lack (λ channel t is. first_time)
+
+  pub within_time : Lacks (Spells IsTime) bytes lack → Lacks FromTime bytes lack
+  within_time = lacks_within IsTime (λ m. FromEnd) bytes lack (λ moment t is. some_end)
+
+  pub within_end : Lacks (Spells IsEnd) bytes lack → Lacks FromEnd bytes lack
+  within_end = lacks_within IsEnd (λ h. FromErrors) bytes lack (λ how t is. some_errors)
+
+  pub within_errors : Lacks (Spells (IsCount 0 47)) bytes lack → Lacks FromErrors bytes lack
+  within_errors =
+      lacks_within (IsCount 0 47) FromCharacters bytes lack (λ n t is. some_characters n is.few)
+
+  pub within_characters : (errors : ℕ) → Lacks (Spells (IsCount errors 93)) bytes lack
+      → Lacks (FromCharacters errors) bytes lack
+  within_characters errors =
+      lacks_within (IsCount errors 93) (FromNewline errors) bytes lack
+      (λ n t is. some_newline errors n is.enough)
+
+  pub within_newline : (errors n : ℕ) → errors ≤ n
+      → Lacks (λ spelled. spelled ≡ newline ∷ []) bytes lack
+      → Lacks (FromNewline errors n) bytes lack
+  within_newline errors n enough l =
+      lacks_within IsNewline (λ none. FromText errors n) bytes lack
+      (λ piece t is. some_text errors n enough)
+      (lacks_same (λ spelled. spelled ≡ newline ∷ []) (Spells IsNewline) bytes lack
+      (λ spelled is. (tt, is)) (λ spelled is. is.1) l)
+
+  pub within_text : (errors n : ℕ) → Lacks (Spells (IsTextOf errors n)) bytes lack
+      → Lacks (FromText errors n) bytes lack
+  within_text errors n =
+      lacks_within (IsTextOf errors n) IsBehindText bytes lack
+      (λ text t is. (missing_newline text ++ newline ∷ [], refl))
+
+-- behind a head
+pub behind_head : (bytes rest : List ℕ) (head : LoggedHead) (lack : Lack)
+    → BeginsWithHead bytes head rest → IsHead head
+    → Lacks (FromText head.errors head.characters) rest lack → Lacks FromName bytes lack
+behind_head bytes rest head lack h is l =
+    behind_name bytes lack head.identity (mark_and head h.civil rest) h.spelled
+    (behind_mark (mark_and head h.civil rest) lack head.channel
+    (time_and_rest head h.civil rest) refl
+    (behind_time (time_and_rest head h.civil rest) lack head.moment h.civil (how_and head rest)
+    is.in_range h.shown refl
+    (behind_end (how_and head rest) lack head.how (errors_and head rest) refl
+    (behind_errors (errors_and head rest) lack head.errors (characters_and head rest) is.few refl
+    (behind_characters (characters_and head rest) lack head.errors head.characters (10 ∷ rest)
+    is.enough is.short refl
+    (behind_newline (10 ∷ rest) lack head.errors head.characters rest refl l))))))

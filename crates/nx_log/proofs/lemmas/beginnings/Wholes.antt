@@ -1,9 +1,9 @@
 -- All of an entry, by its pieces and by what it says.
-use Rattle.std.proofs.Common.{◌≡◌, ◌≢◌, ℕ, List, [], ◌∷◌, ◌++◌, take, drop, ap, sym, ◌∙◌, refl, subst, arith, append-nil, append_assoc}
+use Rattle.std.proofs.Common.{◌≡◌, ◌≢◌, ℕ, List, [], ◌∷◌, ◌++◌, take, drop, ap, length, sym, ◌∙◌, refl, arith, append-nil, append_assoc}
 use Rattle.std.specs.Prelude.{◌==◌, decimal}
 use Rattle.std.proofs.lemmas.List.Sums.{count_by-le-length}
 use Rattle.nx_code.specs.Reading.{asterisk}
-use Rattle.std.proofs.lemmas.List.{take-append-drop}
+use Rattle.std.proofs.lemmas.List.{length-append, take-append-drop}
 use Rattle.nx_code.specs.Reading.{newline}
 use Rattle.nx_envelope.specs.Identity.{identity_bytes}
 use Rattle.nx_copies.specs.copies.Log.{channel_mark, how_name, missing_newline}
@@ -13,8 +13,11 @@ use Rattle.nx_log.specs.Logged.{IsLoggedAs}
 use Rattle.nx_log.specs.View.{copy_said}
 use Rattle.nx_log.specs.declared.entries.head.LoggedHead.{LoggedHead}
 use Rattle.nx_log.specs.private.Heads.{head_and}
-use Rattle.nx_log.specs.private.Stages.{CanBe, FromName}
-use Rattle.nx_log.proofs.lemmas.reading.Entries.{body_and, entry_on, head_of}
+use Rattle.nx_log.specs.private.Stages.{FromName, Lacks}
+use Rattle.nx_log.specs.declared.entries.lack.Lack.{Lack}
+use Rattle.nx_log.specs.declared.entries.lack.Lack.TheVariants.{Unfinished, Broken}
+use Rattle.nx_log.proofs.lemmas.beginnings.Lists.{no_elements}
+use Rattle.nx_log.proofs.lemmas.reading.Entries.{body_and, entry_on, head_of, one_entry}
 use Rattle.nx_log.proofs.lemmas.reading.Views.{is_entry}
 
 -- bytes by a piece and the rest, of which each is known
@@ -176,37 +179,28 @@ from_entry bytes whole =
       };
     }
 
--- bytes that no entry begins, but that can be one, lack its end
-pub unfinished : (bytes : List ℕ)
-    → ((one : MarkedCopy) (entry more : List ℕ) → IsLoggedAs one entry → bytes ≢ entry ++ more)
-    → CanBe FromName bytes → IsUnfinishedEntry bytes
-unfinished bytes none can =
-    let whole = to_entry (bytes ++ can.more) can.whole in (
-      can.more,
-      whole,
-      λ e. none whole.0 (bytes ++ can.more) [] whole.1
-          (sym (append-nil bytes) ∙ ap (λ m. bytes ++ m) (sym e)
-          ∙ sym (append-nil (bytes ++ can.more))),
-    )
+-- bytes that lack something of an entry begin with none
+pub none_begins : (bytes : List ℕ) (lack : Lack) → Lacks FromName bytes lack → (one : MarkedCopy)
+    (entry more : List ℕ) → IsLoggedAs one entry → bytes ≢ entry ++ more
+none_begins bytes Unfinished l one entry more is e =
+    let whole = to_entry (bytes ++ l.0) l.1 in
+    let rest = (one_entry one whole.0 entry (bytes ++ l.0) (more ++ l.0) [] is whole.1
+    (sym (append_assoc entry more l.0) ∙ ap (λ b. b ++ l.0) (sym e)
+    ∙ sym (append-nil (bytes ++ l.0)))).rest in
+    l.2 (no_elements l.0 (omega (arith, ap length rest, length-append more l.0)))
+none_begins bytes Broken l one entry more is e =
+    l [] entry more (from_entry entry (one, is)) (append-nil bytes ∙ e)
 
-pub no_whole : (bytes : List ℕ) → ¬ CanBe FromName bytes → ¬ IsWholeEntry bytes
-no_whole bytes cannot whole = cannot (record {
-  more = [];
-  whole = subst FromName (sym (append-nil bytes)) (from_entry bytes whole);
-})
+pub unfinished : (bytes : List ℕ) → Lacks FromName bytes Unfinished → IsUnfinishedEntry bytes
+unfinished bytes l = (l.0, to_entry (bytes ++ l.0) l.1, l.2)
 
-pub no_unfinished : (bytes : List ℕ) → ¬ CanBe FromName bytes → ¬ IsUnfinishedEntry bytes
-no_unfinished bytes cannot lacking = cannot (record {
-  more = lacking.0;
-  whole = from_entry (bytes ++ lacking.0) lacking.1;
-})
+pub lacks_end : (bytes : List ℕ) → IsUnfinishedEntry bytes → Lacks FromName bytes Unfinished
+lacks_end bytes u = (u.0, from_entry (bytes ++ u.0) u.1, u.2)
 
--- where no entry begins bytes, none begins their beginning
-pub none_begins_less : (bytes : List ℕ) (n : ℕ)
-    → ((one : MarkedCopy) (entry more : List ℕ) → IsLoggedAs one entry → bytes ≢ entry ++ more)
-    → (one : MarkedCopy) (entry more : List ℕ) → IsLoggedAs one entry
-    → take n bytes ≢ entry ++ more
-none_begins_less bytes n none one entry more l e =
-    none one entry (more ++ drop n bytes) l
+-- what breaks off begins with no entry, however few of it are taken
+pub none_in_front : (bytes : List ℕ) (n : ℕ) → Lacks FromName bytes Broken → (one : MarkedCopy)
+    (entry more : List ℕ) → IsLoggedAs one entry → take n bytes ≢ entry ++ more
+none_in_front bytes n l one entry more is e =
+    none_begins bytes Broken l one entry (more ++ drop n bytes) is
     (sym (take-append-drop n bytes) ∙ ap (λ l. l ++ drop n bytes) e
     ∙ append_assoc entry more (drop n bytes))

@@ -9,7 +9,7 @@ use Rattle.nx_log.specs.Starts.{StartsAs}
 use Rattle.nx_log.specs.declared.entries.start.EntryStart.{EntryStart}
 use Rattle.nx_log.specs.declared.entries.start.EntryStart.TheVariants.{Whole, Unfinished, Broken}
 use Rattle.nx_log.proofs.lemmas.beginnings.Lists.{one_extends, part_of_longer, some_elements}
-use Rattle.nx_log.proofs.lemmas.beginnings.Stages.{nothing_can_be}
+use Rattle.nx_log.proofs.lemmas.beginnings.Stages.{nothing_lacks}
 use Rattle.nx_log.proofs.lemmas.beginnings.Wholes.{to_entry}
 use Rattle.nx_log.proofs.lemmas.reading.Gaps.{begins}
 use Rattle.nx_log.proofs.lemmas.reading.Entries.{entry_bounded, entry_is_some, one_entry}
@@ -124,8 +124,8 @@ breaks_behind held bytes place lacking broken =
 -- a bracket is the beginning of an entry
 pub bracket_begins : IsUnfinishedEntry (91 ∷ [])
 bracket_begins =
-    let whole = to_entry nothing_can_be.more nothing_can_be.whole in
-    let b = begins whole.0 nothing_can_be.more whole.1 in (
+    let whole = to_entry nothing_lacks.0 nothing_lacks.1 in
+    let b = begins whole.0 nothing_lacks.0 whole.1 in (
       b.letter ∷ b.more,
       (whole.0, subst (IsLoggedAs whole.0) b.is whole.1),
       λ n. omega (arith, ap length n),

@@ -155,6 +155,7 @@ head_is one l = record {
   few = let short = l.short in
       omega (arith, count_by-le-length (λ b. b == asterisk) one.copy.text);
   short = l.short;
+  enough = count_by-le-length (λ b. b == asterisk) one.copy.text;
 }
 
 pub begins_with_head : (one : MarkedCopy) (entry more bytes : List ℕ) → (l : IsLoggedAs one entry)

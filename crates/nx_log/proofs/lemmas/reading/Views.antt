@@ -1,8 +1,8 @@
 -- An entry by the pieces that are read of it.
 use Rattle.std.proofs.Common.{◌≡◌, ℕ, ◌-◌, List, [], ◌∷◌, ◌++◌, length, take, ap, ◌∙◌, refl, arith, append_assoc}
 use Rattle.std.specs.Prelude.{IsTrue}
-use Rattle.std.specs.List.{All, IsSplitAt}
-use Rattle.std.proofs.lemmas.List.{length-append, take-append-drop, take-append-le, take_all}
+use Rattle.std.specs.List.{All}
+use Rattle.std.proofs.lemmas.List.{length-append, take-append-le, take_all}
 use Rattle.nx_envelope.specs.Copies.{errors_of}
 use Rattle.nx_code.specs.Reading.{newline}
 use Rattle.nx_log.specs.declared.entries.head.LoggedHead.{LoggedHead}
@@ -15,14 +15,6 @@ use Rattle.nx_envelope.specs.Identity.{identity_bytes}
 use Rattle.nx_log.specs.Logged.{is_text_byte}
 use Rattle.nx_log.specs.View.{IsViewOf, copy_said}
 use Rattle.nx_log.proofs.lemmas.reading.Entries.{body_and, in_order}
-use Rattle.nx_log.proofs.lemmas.reading.Pieces.{Same, same_text}
-
--- a list that is split, and is known to begin with a text of that length
-pub split_text : (rest front back text more : List ℕ) (k : ℕ) → IsSplitAt rest k front back
-    → rest ≡ text ++ more → k ≡ length text → Same front text back more
-split_text rest front back text more k split e n =
-    same_text front text back more (split.3 ∙ n)
-    (ap (λ l. l ++ back) split.1 ∙ ap (λ l. take k rest ++ l) split.2 ∙ take-append-drop k rest ∙ e)
 
 -- more stands behind a head, and more behind that
 head_more : (head : LoggedHead) (civil x y : List ℕ)

@@ -1,79 +1,75 @@
-use Rattle.nx_log.proofs.lemmas.reading.Heads.{behind_name, behind_mark, behind_time, behind_how}
-use Rattle.nx_log.proofs.lemmas.reading.Heads.{behind_errors, behind_characters}
+use Rattle.std.proofs.lemmas.Result.{err_from_is_err_and}
+use Rattle.nx_log.proofs.lemmas.beginnings.Stages.{behind_characters, behind_end, behind_errors, behind_mark, behind_name, behind_time}
+use Rattle.nx_log.proofs.lemmas.beginnings.Stages.{within_characters, within_end, within_errors, within_mark, within_name, within_newline, within_time}
 use Rattle.nx_log.proofs.entries.head.head_at.Goals as goal
 
-pub returns-in_err-identity-clause-none : goal.returns-in_err-identity-clause-none
-returns-in_err-identity-clause-none c =
-    rw c.from_residual.ensures
-    (λ head more is h. c.in_err-identity.ensures.none head.identity _ h.spelled)
+pub returns-in_err-identity-clause-lacks : goal.returns-in_err-identity-clause-lacks
+returns-in_err-identity-clause-lacks c =
+    let p = err_from_is_err_and c.from_residual.result c.from_residual.ensures.1 in
+    rw p.1 (rw p.2 (within_name _ _ c.in_err-identity.ensures.lacks))
 
-pub returns-in_err-channel-clause-none : goal.returns-in_err-channel-clause-none
-returns-in_err-channel-clause-none c = rw c.from_residual-in_err-channel.ensures (λ head more is h.
-    let r = behind_name c.args.bytes.now head more h c.in_ok-identity.identity _
-    c.in_ok-identity.ensures.found in
-    c.in_err-channel.ensures.none head.channel _ r)
+pub returns-in_err-channel-clause-lacks : goal.returns-in_err-channel-clause-lacks
+returns-in_err-channel-clause-lacks c =
+    let p = err_from_is_err_and c.from_residual-in_err-channel.result
+    c.from_residual-in_err-channel.ensures.1 in
+    rw p.1 (rw p.2 (behind_name _ _ c.in_ok-identity.identity _ c.in_ok-identity.ensures.found
+    (within_mark _ _ c.in_err-channel.ensures.lacks)))
 
-pub returns-in_err-moment-clause-none : goal.returns-in_err-moment-clause-none
-returns-in_err-moment-clause-none c = rw c.from_residual-in_err-moment.ensures (λ head more is h.
-    let r = behind_name c.args.bytes.now head more h c.in_ok-identity.identity _
-    c.in_ok-identity.ensures.found in
-    let s = behind_mark c.args.bytes.now head more h c.in_ok-channel.channel _ _ r
-    c.in_ok-channel.ensures.found in
-    c.in_err-moment.ensures.none head.moment h.civil _ is.in_range h.shown s)
+pub returns-in_err-moment-clause-lacks : goal.returns-in_err-moment-clause-lacks
+returns-in_err-moment-clause-lacks c =
+    let p = err_from_is_err_and c.from_residual-in_err-moment.result
+    c.from_residual-in_err-moment.ensures.1 in
+    rw p.1 (rw p.2 (behind_name _ _ c.in_ok-identity.identity _ c.in_ok-identity.ensures.found
+    (behind_mark _ _ c.in_ok-channel.channel _ c.in_ok-channel.ensures.found
+    (within_time _ _ c.in_err-moment.ensures.lacks))))
 
-pub returns-in_err-how-clause-none : goal.returns-in_err-how-clause-none
-returns-in_err-how-clause-none c = rw c.from_residual-in_err-how.ensures (λ head more is h.
-    let r = behind_name c.args.bytes.now head more h c.in_ok-identity.identity _
-    c.in_ok-identity.ensures.found in
-    let s = behind_mark c.args.bytes.now head more h c.in_ok-channel.channel _ _ r
-    c.in_ok-channel.ensures.found in
+pub returns-in_err-how-clause-lacks : goal.returns-in_err-how-clause-lacks
+returns-in_err-how-clause-lacks c =
+    let p = err_from_is_err_and c.from_residual-in_err-how.result
+    c.from_residual-in_err-how.ensures.1 in
     let time = c.in_ok-moment.ensures.found in
-    let t = behind_time c.args.bytes.now head more h c.in_ok-moment.moment time.0 _ _ time.1 s
-    time.2 in
-    c.in_err-how.ensures.none head.how _ t)
+    rw p.1 (rw p.2 (behind_name _ _ c.in_ok-identity.identity _ c.in_ok-identity.ensures.found
+    (behind_mark _ _ c.in_ok-channel.channel _ c.in_ok-channel.ensures.found
+    (behind_time _ _ c.in_ok-moment.moment time.0 _ c.in_ok-moment.ensures.in_range time.1 time.2
+    (within_end _ _ c.in_err-how.ensures.lacks)))))
 
-pub returns-in_err-errors-clause-none : goal.returns-in_err-errors-clause-none
-returns-in_err-errors-clause-none c = rw c.from_residual-in_err-errors.ensures (λ head more is h.
-    let r = behind_name c.args.bytes.now head more h c.in_ok-identity.identity _
-    c.in_ok-identity.ensures.found in
-    let s = behind_mark c.args.bytes.now head more h c.in_ok-channel.channel _ _ r
-    c.in_ok-channel.ensures.found in
+pub returns-in_err-errors-clause-lacks : goal.returns-in_err-errors-clause-lacks
+returns-in_err-errors-clause-lacks c =
+    let p = err_from_is_err_and c.from_residual-in_err-errors.result
+    c.from_residual-in_err-errors.ensures.1 in
     let time = c.in_ok-moment.ensures.found in
-    let t = behind_time c.args.bytes.now head more h c.in_ok-moment.moment time.0 _ _ time.1 s
-    time.2 in
-    let u = behind_how c.args.bytes.now head more h c.in_ok-how.how _ _ t
-    c.in_ok-how.ensures.found in
-    c.in_err-errors.ensures.none head.errors _ is.few u)
+    rw p.1 (rw p.2 (behind_name _ _ c.in_ok-identity.identity _ c.in_ok-identity.ensures.found
+    (behind_mark _ _ c.in_ok-channel.channel _ c.in_ok-channel.ensures.found
+    (behind_time _ _ c.in_ok-moment.moment time.0 _ c.in_ok-moment.ensures.in_range time.1 time.2
+    (behind_end _ _ c.in_ok-how.how _ c.in_ok-how.ensures.found
+    (within_errors _ _ c.in_err-errors.ensures.lacks))))))
 
-pub returns-in_err-characters-clause-none : goal.returns-in_err-characters-clause-none
-returns-in_err-characters-clause-none c = rw c.from_residual-in_err-characters.ensures
-    (λ head more is h.
-    let r = behind_name c.args.bytes.now head more h c.in_ok-identity.identity _
-    c.in_ok-identity.ensures.found in
-    let s = behind_mark c.args.bytes.now head more h c.in_ok-channel.channel _ _ r
-    c.in_ok-channel.ensures.found in
+pub returns-in_err-characters-clause-lacks : goal.returns-in_err-characters-clause-lacks
+returns-in_err-characters-clause-lacks c =
+    let p = err_from_is_err_and c.from_residual-in_err-characters.result
+    c.from_residual-in_err-characters.ensures.1 in
     let time = c.in_ok-moment.ensures.found in
-    let t = behind_time c.args.bytes.now head more h c.in_ok-moment.moment time.0 _ _ time.1 s
-    time.2 in
-    let u = behind_how c.args.bytes.now head more h c.in_ok-how.how _ _ t
-    c.in_ok-how.ensures.found in
-    let v = behind_errors head more is c.in_ok-errors.errors _ _ c.in_ok-errors.ensures.in_range u
-    c.in_ok-errors.ensures.found in
-    c.in_err-characters.ensures.none head.characters _ is.short v)
+    let errors = c.in_ok-errors.ensures in
+    rw p.1 (rw p.2 (behind_name _ _ c.in_ok-identity.identity _ c.in_ok-identity.ensures.found
+    (behind_mark _ _ c.in_ok-channel.channel _ c.in_ok-channel.ensures.found
+    (behind_time _ _ c.in_ok-moment.moment time.0 _ c.in_ok-moment.ensures.in_range time.1 time.2
+    (behind_end _ _ c.in_ok-how.how _ c.in_ok-how.ensures.found
+    (behind_errors _ _ c.in_ok-errors.errors _ errors.in_range.1 errors.found
+    (within_characters _ _ c.in_ok-errors.errors c.in_err-characters.ensures.lacks)))))))
 
-pub returns-in_err-rest-clause-none : goal.returns-in_err-rest-clause-none
-returns-in_err-rest-clause-none c = rw c.from_residual-in_err-rest.ensures (λ head more is h.
-    let r = behind_name c.args.bytes.now head more h c.in_ok-identity.identity _
-    c.in_ok-identity.ensures.found in
-    let s = behind_mark c.args.bytes.now head more h c.in_ok-channel.channel _ _ r
-    c.in_ok-channel.ensures.found in
+pub returns-in_err-rest-clause-lacks : goal.returns-in_err-rest-clause-lacks
+returns-in_err-rest-clause-lacks c =
+    let p = err_from_is_err_and c.from_residual-in_err-rest.result
+    c.from_residual-in_err-rest.ensures.1 in
     let time = c.in_ok-moment.ensures.found in
-    let t = behind_time c.args.bytes.now head more h c.in_ok-moment.moment time.0 _ _ time.1 s
-    time.2 in
-    let u = behind_how c.args.bytes.now head more h c.in_ok-how.how _ _ t
-    c.in_ok-how.ensures.found in
-    let v = behind_errors head more is c.in_ok-errors.errors _ _ c.in_ok-errors.ensures.in_range u
-    c.in_ok-errors.ensures.found in
-    let w = behind_characters head more is c.in_ok-characters.characters _ _
-    c.in_ok-characters.ensures.in_range v c.in_ok-characters.ensures.found in
-    c.in_err-rest.ensures.none more w)
+    let errors = c.in_ok-errors.ensures in
+    let characters = c.in_ok-characters.ensures in
+    rw p.1 (rw p.2 (behind_name _ _ c.in_ok-identity.identity _ c.in_ok-identity.ensures.found
+    (behind_mark _ _ c.in_ok-channel.channel _ c.in_ok-channel.ensures.found
+    (behind_time _ _ c.in_ok-moment.moment time.0 _ c.in_ok-moment.ensures.in_range time.1 time.2
+    (behind_end _ _ c.in_ok-how.how _ c.in_ok-how.ensures.found
+    (behind_errors _ _ c.in_ok-errors.errors _ errors.in_range.1 errors.found
+    (behind_characters _ _ c.in_ok-errors.errors c.in_ok-characters.characters _
+    characters.in_range.0 characters.in_range.1 characters.found
+    (within_newline _ _ c.in_ok-errors.errors c.in_ok-characters.characters
+    characters.in_range.0 c.in_err-rest.ensures.lacks))))))))
