@@ -1,8 +1,11 @@
 //! Laws of logged entries. Each function does nothing; its contract is the law.
 
-ghost use Rattle.std.specs.Prelude.{◌≡◌, ℕ, ◌≤◌, List, [], ◌∷◌, ◌++◌, length, All, Option, Result};
+ghost use Rattle.std.specs.Prelude.{◌≡◌, ◌⊎◌, ℕ, ◌≤◌, ◌<◌, true, List, [], ◌∷◌, ◌++◌, length, All, Option, Result};
+ghost use Rattle.std.specs.FinSet as set;
+ghost use Rattle.std.specs.Ordering.{nat_cmp};
 ghost use Rattle.std.specs.Io.KnownBytes.{IsAtEnd};
 ghost use Rattle.nx_code.specs.Lists.{last_of};
+ghost use Rattle.nx_code.specs.Reading.{IsCapital};
 ghost use Rattle.nx_envelope.specs.Moment.{IsShownAs};
 ghost use Rattle.nx_fec.specs.air_files.AirFile.{Line};
 ghost use Rattle.nx_fec.specs.Transfers.{Contents, read_to};
@@ -21,9 +24,19 @@ ghost use Rattle.nx_receiver.specs.declared.air_file_runs.listen_fault.ListenFau
 ghost use Rattle.nx_receiver.specs.declared.air_file_runs.listening.Report.{Report};
 ghost use Rattle.nx_receiver.specs.declared.air_file_runs.resume_fault.ResumeFault.{ResumeFault};
 ghost use Rattle.nx_receiver.specs.declared.air_file_runs.resume_fault.Want.TheVariants.{Log};
+ghost use Rattle.nx_log.specs.Json.{IsPlacedLine};
+ghost use Rattle.nx_log.specs.KeptLog.{HoldKept, StopKept};
 ghost use Rattle.nx_log.specs.Logged.{IsLogged, IsLoggedAs, IsLogOfLogged, kept_entries, remembered_on};
+ghost use Rattle.nx_log.specs.Places.{PlacedCopy};
+ghost use Rattle.nx_log.specs.Query.{AreLetters, IsSetOf};
 ghost use Rattle.nx_log.specs.Reading.{HoldEntries, HoldEntriesToEnd, IsNoBracket, StopAtLine, bracket};
 ghost use Rattle.nx_log.specs.Runs.{ResumedEntries, WroteEntries};
+ghost use Rattle.nx_log.specs.Salvage.{AreCut, BeginsAnew, Stretch};
+ghost use Rattle.nx_log.specs.View.{IsViewOf, copy_said};
+ghost use Rattle.nx_log.specs.declared.entries.entry.EntryView.{EntryView};
+ghost use Rattle.nx_log.specs.declared.writing.places.Places.{Places};
+
+pub mod runs;
 
 /// A log is read in one way: its bytes are the log of one list of logged entries. No entry's bytes
 /// begin another's, none is empty, and none has more than 4,146 bytes.
@@ -60,6 +73,46 @@ pub fn bytes_are_read_in_one_way()
 pub fn a_bracket_begins_an_entry()
     ensures { (one : MarkedCopy) (bytes : List ℕ) → IsLoggedAs one bytes
         → (more : List ℕ) × (bytes ≡ bracket ∷ more) × All IsNoBracket more }
+{}
+
+/// A view has the bytes of its entry: so many, with which the bytes begin, whatever stands behind.
+pub fn a_view_has_the_bytes_of_its_entry()
+    ensures { (bytes : List ℕ) (view : EntryView) → IsViewOf bytes view
+        → (entry : List ℕ) × (more : List ℕ) × (bytes ≡ entry ++ more)
+        × (length entry ≡ view.len) × IsLoggedAs (copy_said view.head view.text.now) entry }
+{}
+
+/// A kept log is read in one way: its bytes hold one list of entries, each at its places. Where
+/// they are damaged before their end, they hold those of none.
+pub fn a_kept_log_is_read_in_one_way()
+    ensures one_reading { (from : ℕ) (entries others : List PlacedCopy) (bytes : List ℕ)
+        → HoldKept from bytes entries → HoldKept from bytes others → entries ≡ others }
+    ensures stopped { (from : ℕ) (entries others : List PlacedCopy) (bytes : List ℕ) (line : ℕ)
+        (stop : StopKept from bytes entries line) → stop.place < length bytes
+        → ¬ HoldKept from bytes others }
+{}
+
+/// Where a log is damaged, all is passed over up to the next bracket, and no bracket with it.
+pub fn damage_reaches_to_the_next_bracket()
+    ensures { (bytes rest : List ℕ) (stretch : Stretch) (earlier : List Stretch)
+        → AreCut bytes (stretch ∷ earlier) rest
+        → (front : List ℕ) × (passed : List ℕ) × (bytes ≡ front ++ (passed ++ rest))
+        × All IsNoBracket passed × ((rest ≡ []) ⊎ BeginsAnew rest) }
+{}
+
+/// A text that names letters names one at least, and nothing but letters A to Z.
+pub fn a_text_names_letters()
+    ensures some { (text : List ℕ) (letters : set.FinSet nat_cmp) → AreLetters text
+        → IsSetOf text letters → (byte : ℕ) × (set.contains letters byte ≡ true) }
+    ensures capitals { (text : List ℕ) (letters : set.FinSet nat_cmp) (byte : ℕ)
+        → AreLetters text → IsSetOf text letters → set.contains letters byte ≡ true
+        → IsCapital byte }
+{}
+
+/// An entry has one line of JSON, with its places and without them.
+pub fn an_entry_has_one_json_line()
+    ensures { (one : MarkedCopy) (places : Option Places) (line other : List ℕ)
+        → IsPlacedLine one places line → IsPlacedLine one places other → line ≡ other }
 {}
 
 /// A civil time shows one moment.

@@ -1,4 +1,5 @@
 -- What runs wrote, remembered and told.
+pub mod Laws
 pub mod LogRuns
 pub mod Outputs
 pub mod Placing
