@@ -46,9 +46,9 @@ enum nx_live_status {
 /* How many bytes of room a receiver needs, and how they are aligned. Over the C that wasm2c makes, the
  * memory of the whole module lies in the room, its stack too; all is then compiled with
  * -DNX_LIVE_BY_WASM2C. */
-#define NX_LIVE_KEPT 26576
+#define NX_LIVE_KEPT 22400
 #ifdef NX_LIVE_BY_WASM2C
-#define NX_LIVE_ROOM 67840
+#define NX_LIVE_ROOM 63664
 #else
 #define NX_LIVE_ROOM NX_LIVE_KEPT
 #endif

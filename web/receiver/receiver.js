@@ -3,7 +3,7 @@
 // its calls take addresses and lengths as BigInt all the same.
 
 const PAGE = 65536;
-export const ROOM = 26576;     // NX_LIVE_KEPT
+export const ROOM = 22400;     // NX_LIVE_KEPT
 export const MAX_ENTRY = 4163; // NX_LIVE_MAX_ENTRY
 const MAX_STATE = 12288;
 const MAX_ELEMENTS = 4096; // of one call; more are given in pieces

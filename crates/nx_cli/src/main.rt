@@ -7,7 +7,6 @@ mod tests;
 use nx_disk::LeftBefore;
 use nx_fec::Counting;
 use nx_program::{SystemFiles, answer};
-use nx_watch::StampedReader;
 use std::process::ExitCode;
 use std::{env, io};
 
@@ -20,7 +19,7 @@ fn main(rt: HostRuntime) -> ExitCode {
     let ended = answer(
         rt.alloc(),
         arguments_of(&rt),
-        StampedReader::new(Counting::new(rt.stdin())),
+        Counting::new(rt.stdin()),
         &mut Counting::new(rt.stdout()),
         &mut Counting::new(rt.stderr()),
         SystemFiles::new(rt.alloc(), &rt, LeftBefore::any()),

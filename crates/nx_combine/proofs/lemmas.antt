@@ -1,4 +1,5 @@
 -- Lemmas that several proofs cite.
+pub mod Alone
 pub mod Closing
 pub mod Combine
 pub mod Examples

@@ -1,5 +1,6 @@
 -- Which combined copies are printed, which of them the memory keeps, and their log (this profile;
--- the number 00 and the share of 4 per cent are of ITU-R M.540).
+-- the number 00 and the share of 4 per cent are of ITU-R M.540). What is named `holding` takes
+-- first how many families are held; the same name without that word is its case of 200.
 use Rattle.std.specs.Prelude.{◌≡◌, ℕ, ◌==◌, Bool, false, ◌&&◌, ◌||◌, if◌then◌else◌}
 use Rattle.std.specs.Prelude.{List, [], ◌∷◌, ◌++◌, map, Option, Some, is_some}
 use Rattle.std.specs.List.{find}
@@ -11,7 +12,7 @@ use Rattle.nx_copies.specs.copies.FoundCopies.{TaggedCopy}
 use Rattle.nx_copies.specs.copies.Log.{Printing}
 use Rattle.nx_copies.specs.copies.Printing.{entry_of, is_better, is_good, is_printed, is_remembered}
 use Rattle.nx_combine.specs.CopyPositions.{PlacedCopy, ended_placed, heard_copies, placed_to_end}
-use Rattle.nx_combine.specs.Families.{CombinedCopy, combined_copies}
+use Rattle.nx_combine.specs.Families.{CombinedCopy, combined_copies_holding, most_families}
 
 -- the two are of one family
 abbrev pub are_of_one_family : CombinedCopy → CombinedCopy → Bool
@@ -64,28 +65,47 @@ printed_combined entries before (one ∷ later) =
     (if_printed_combined entries before one ++ before) later
 
 -- of the copies that were found, what is printed of them, combined
-abbrev pub printed_of_placed : Start → List Event → List PlacedCopy → List TaggedCopy
-printed_of_placed start events copies =
+abbrev pub printed_of_placed_holding : ℕ → Start → List Event → List PlacedCopy → List TaggedCopy
+printed_of_placed_holding held start events copies =
     map (λ (one : CombinedCopy). one.copy)
     (printed_combined start.entries []
-    (combined_copies [] (heard_copies (first_setting start) events copies)))
+    (combined_copies_holding held [] (heard_copies (first_setting start) events copies)))
+
+abbrev pub printed_of_placed : Start → List Event → List PlacedCopy → List TaggedCopy
+printed_of_placed = printed_of_placed_holding most_families
 
 -- What is printed, combined, after these events of the copies that are `found` in their elements.
-pub record PrintsCombined (found : List Bool → List Lock → Now → List PlacedCopy) (start : Start)
-    (events : List Event) (log : List TaggedCopy) : Type 0 where
+pub record PrintsHolding (held : ℕ) (found : List Bool → List Lock → Now → List PlacedCopy)
+    (start : Start) (events : List Event) (log : List TaggedCopy)
+    : Type 0 where
   pub locks : List Lock
   pub now : Now
   pub stands : IsNow (elements_among events) locks now
-  pub printed : log ≡ printed_of_placed start events (found (elements_among events) locks now)
+  pub printed : log
+      ≡ printed_of_placed_holding held start events (found (elements_among events) locks now)
+
+abbrev pub PrintsCombined : (List Bool → List Lock → Now → List PlacedCopy) → Start → List Event
+    → List TaggedCopy → Type 0
+PrintsCombined = PrintsHolding most_families
 
 -- What is printed of the copies that have ended after these events.
+abbrev pub HasPrintedHolding : ℕ → Start → List Event → List TaggedCopy → Type 0
+HasPrintedHolding held start events log = PrintsHolding held ended_placed start events log
+
 abbrev pub HasPrintedCombined : Start → List Event → List TaggedCopy → Type 0
-HasPrintedCombined start events log = PrintsCombined ended_placed start events log
+HasPrintedCombined = HasPrintedHolding most_families
 
 -- What is printed where these events are all: the end closes the copy that stands open.
+abbrev pub PrintsHoldingToEnd : ℕ → Start → List Event → List TaggedCopy → Type 0
+PrintsHoldingToEnd held start events log = PrintsHolding held placed_to_end start events log
+
 abbrev pub PrintsCombinedToEnd : Start → List Event → List TaggedCopy → Type 0
-PrintsCombinedToEnd start events log = PrintsCombined placed_to_end start events log
+PrintsCombinedToEnd = PrintsHoldingToEnd most_families
 
 -- what a receiver prints that takes several sendings together
+abbrev pub combined_holding : ℕ → Printing
+combined_holding held =
+    record { so_far = HasPrintedHolding held; to_end = PrintsHoldingToEnd held }
+
 abbrev pub combined : Printing
-combined = record { so_far = HasPrintedCombined; to_end = PrintsCombinedToEnd }
+combined = combined_holding most_families

@@ -1,5 +1,5 @@
 -- What a receiver that takes several sendings together holds, and after which events: the layer
--- contract (this profile).
+-- contract (this profile). `held` is how many families are held.
 use Rattle.std.specs.Prelude.{◌≡◌, ℕ, Bool, List, [], Option, if◌then◌else◌}
 use Rattle.nx_code.specs.Lists.{last_of}
 use Rattle.nx_memory.specs.Memory.{most_entries}
@@ -13,11 +13,11 @@ use Rattle.nx_copies.specs.hearing.CopyHearing.{CopyHearing, in_force}
 use Rattle.nx_copies.specs.hearing.CopyTaker.{hearer_of}
 use Rattle.nx_receiver.specs.ChannelReceiver.{ReceiverKind}
 use Rattle.nx_combine.specs.CombinedHearing.{CombinedOver, CombinedStands}
-use Rattle.nx_combine.specs.CombinedPrinting.{combined, printed_combined}
+use Rattle.nx_combine.specs.CombinedPrinting.{combined_holding, printed_combined}
 use Rattle.nx_combine.specs.CopyPositions.{HeardCopy}
-use Rattle.nx_combine.specs.Families.{combined_copies}
-use Rattle.nx_combine.specs.Judging.{CombinerView, Judged, StandsCombined, all_copies, judged_after}
-use Rattle.nx_combine.specs.Judging.{judged_behind, printed_by}
+use Rattle.nx_combine.specs.Families.{combined_copies_holding, most_families}
+use Rattle.nx_combine.specs.Judging.{CombinerView, Judged, StandsHolding, all_copies}
+use Rattle.nx_combine.specs.Judging.{judged_after_holding, judged_behind_holding, printed_by_holding}
 use Rattle.nx_combine.specs.declared.taker.CombinedTaker.{CombinedTaker}
 
 -- what is left before any copy came, with these entries in the memory
@@ -46,70 +46,73 @@ text_in receiver =
 
 -- After these copies, which begin with this start, this was printed of them, and the combiner and
 -- the memory hold what they left. This tells the entries of a memory.
-pub record HasJudged {M : Type 0} (content : M → List MemoryEntry) (start : Start)
+pub record HasJudged (held : ℕ) {M : Type 0} (content : M → List MemoryEntry) (start : Start)
     (receiver : CombiningReceiver M) (copies : List HeardCopy) (log : List TaggedCopy) : Type 0
   where
     pub printed : log
-        ≡ all_copies (printed_combined start.entries [] (combined_copies [] copies))
+        ≡ all_copies
+        (printed_combined start.entries [] (combined_copies_holding held [] copies))
     pub memory : content receiver.memory
-        ≡ last_of most_entries (judged_behind (judged_none start.entries) copies).entries
-    pub combiner : StandsCombined receiver.combiner
-        (judged_behind (judged_none start.entries) copies).families
-        (judged_behind (judged_none start.entries) copies).printed
+        ≡ last_of most_entries
+        (judged_behind_holding held (judged_none start.entries) copies).entries
+    pub combiner : StandsHolding held receiver.combiner
+        (judged_behind_holding held (judged_none start.entries) copies).families
+        (judged_behind_holding held (judged_none start.entries) copies).printed
 
 -- what a call that judges a copy says, by what other copies left: it judged one more
-pub record JudgesNext {M : Type 0} (content : M → List MemoryEntry) (memory : M)
+pub record JudgesNext (held : ℕ) {M : Type 0} (content : M → List MemoryEntry) (memory : M)
     (combiner : CombinerView) (so_far : Judged) (heard : HeardCopy) (printed : List TaggedCopy)
     : Type 0 where
-  pub stands : StandsCombined combiner (judged_after so_far heard).families
-      (judged_after so_far heard).printed
-  pub entered : content memory ≡ last_of most_entries (judged_after so_far heard).entries
-  pub printed_is : all_copies (printed_by so_far heard) ≡ printed
+  pub stands : StandsHolding held combiner (judged_after_holding held so_far heard).families
+      (judged_after_holding held so_far heard).printed
+  pub entered : content memory
+      ≡ last_of most_entries (judged_after_holding held so_far heard).entries
+  pub printed_is : all_copies (printed_by_holding held so_far heard) ≡ printed
 
 -- The receiver stands after these events, which begin with this start, and this is the log of what
 -- it handed out. Its synchroniser and its taker stand after the elements, with what is in force at
 -- each, and what is in force now is so after all events. The log is what is printed of the copies
 -- that have ended.
-pub record StandsTogether {M : Type 0} (content : M → List MemoryEntry) (start : Start)
+pub record StandsTogether (held : ℕ) {M : Type 0} (content : M → List MemoryEntry) (start : Start)
     (receiver : CombiningReceiver M) (bits : List Bool) (settings : List Setting) (now : Setting)
     (log : List TaggedCopy) : Type 0 where
   pub copies : List HeardCopy
   pub stands : CombinedStands (first_setting start) receiver.synchroniser receiver.taker bits
       settings copies
   pub force : in_force (hearer_in receiver) ≡ now
-  pub judged : HasJudged content start receiver copies log
+  pub judged : HasJudged held content start receiver copies log
 
-abbrev pub StandsAfterAll : {M : Type 0} → (M → List MemoryEntry) → Start → CombiningReceiver M
-    → List Event → List TaggedCopy → Type 0
-StandsAfterAll content start receiver events log =
-    StandsTogether content start receiver (elements_among events)
+abbrev pub StandsAfterAllHolding : ℕ → {M : Type 0} → (M → List MemoryEntry) → Start
+    → CombiningReceiver M → List Event → List TaggedCopy → Type 0
+StandsAfterAllHolding held content start receiver events log =
+    StandsTogether held content start receiver (elements_among events)
     (settings (first_setting start) events)
     (setting_after_all (first_setting start) events) log
 
 -- The receiver stands so but for what is over with the last element, which is yet to be finished:
 -- the log is what is printed of the copies that ended before it.
-pub record AwaitsTogether {M : Type 0} (content : M → List MemoryEntry) (start : Start)
+pub record AwaitsTogether (held : ℕ) {M : Type 0} (content : M → List MemoryEntry) (start : Start)
     (receiver : CombiningReceiver M) (bits : List Bool) (settings : List Setting) (now : Setting)
     (log : List TaggedCopy) (answer : Option Over) : Type 0 where
   pub copies : List HeardCopy
   pub over : CombinedOver (first_setting start) receiver.synchroniser receiver.taker bits settings
       copies answer
   pub force : in_force (hearer_in receiver) ≡ now
-  pub judged : HasJudged content start receiver copies log
+  pub judged : HasJudged held content start receiver copies log
 
-abbrev pub AwaitsAfterAll : {M : Type 0} → (M → List MemoryEntry) → Start → CombiningReceiver M
-    → List Event → List TaggedCopy → Option Over → Type 0
-AwaitsAfterAll content start receiver events log answer =
-    AwaitsTogether content start receiver (elements_among events)
+abbrev pub AwaitsAfterAllHolding : ℕ → {M : Type 0} → (M → List MemoryEntry) → Start
+    → CombiningReceiver M → List Event → List TaggedCopy → Option Over → Type 0
+AwaitsAfterAllHolding held content start receiver events log answer =
+    AwaitsTogether held content start receiver (elements_among events)
     (settings (first_setting start) events)
     (setting_after_all (first_setting start) events) log answer
 
 -- such receivers: what they print is what several sendings come to
-abbrev pub combined_kind : {M : Type 0} → (M → List MemoryEntry)
+abbrev pub combined_kind_holding : ℕ → {M : Type 0} → (M → List MemoryEntry)
     → ReceiverKind (CombiningReceiver M)
-combined_kind content = record {
-  printing = combined;
-  stands = StandsAfterAll content;
+combined_kind_holding held content = record {
+  printing = combined_holding held;
+  stands = StandsAfterAllHolding held content;
   start_of = λ receiver. record {
     entries = content receiver.memory;
     moment = receiver.taker.copies.moment;
@@ -117,3 +120,16 @@ combined_kind content = record {
   };
   text_of = text_in;
 }
+
+-- the same where 200 families are held
+abbrev pub StandsAfterAll : {M : Type 0} → (M → List MemoryEntry) → Start → CombiningReceiver M
+    → List Event → List TaggedCopy → Type 0
+StandsAfterAll content = StandsAfterAllHolding most_families content
+
+abbrev pub AwaitsAfterAll : {M : Type 0} → (M → List MemoryEntry) → Start → CombiningReceiver M
+    → List Event → List TaggedCopy → Option Over → Type 0
+AwaitsAfterAll content = AwaitsAfterAllHolding most_families content
+
+abbrev pub combined_kind : {M : Type 0} → (M → List MemoryEntry)
+    → ReceiverKind (CombiningReceiver M)
+combined_kind content = combined_kind_holding most_families content

@@ -1,5 +1,6 @@
 -- Families of copies, and what the copies of one come to together (this profile). The copies are
--- those of one channel, in the order of their headers.
+-- those of one channel, in the order of their headers. What is named `holding` takes first how many
+-- families are held; what bears the same name without that word is its case of 200.
 use Rattle.std.specs.Prelude.{ℕ, ◌-◌, nat_lt, nat_le, Bool, false, not, ◌&&◌}
 use Rattle.std.specs.Prelude.{if◌then◌else◌, List, [], ◌∷◌, ◌++◌, length, position}
 use Rattle.std.specs.Prelude.{slice_get, slice_set, Option, Some, None, unwrap_or}
@@ -24,7 +25,8 @@ pub record Family : Type 0 where
 abbrev pub most_positions : ℕ
 most_positions = 8192
 
--- behind how many later ones a family is joined no more: as many as a memory has entries
+-- how many families are held at most, and where nothing else is said: as many as a memory has
+-- entries
 abbrev pub most_families : ℕ
 most_families = most_entries
 
@@ -51,17 +53,21 @@ abbrev pub last_index : Identity → List Family → Option ℕ
 last_index identity families =
     position (λ family. same_identity family.identity identity) families
 
--- fewer than 200 families were begun behind the one of this index, and it takes the copy in
-abbrev pub joins_at : List Family → HeardCopy → ℕ → Bool
-joins_at families heard index =
-    nat_lt index most_families
+-- fewer families than are held were begun behind the one of this index, and it takes the copy in
+abbrev pub joins_at_holding : ℕ → List Family → HeardCopy → ℕ → Bool
+joins_at_holding held families heard index =
+    nat_lt index held
     && unwrap_or (option_map (λ family. takes_in family heard) (slice_get families index)) false
 
 -- the index of the family that the copy joins: the last one of its identity, if that takes it in
-unfoldable pub index_joined : List Family → HeardCopy → Option ℕ
-index_joined families heard =
-    option_and_then (λ index. if joins_at families heard index then Some index else None)
+unfoldable pub index_joined_holding : ℕ → List Family → HeardCopy → Option ℕ
+index_joined_holding held families heard =
+    option_and_then
+    (λ index. if joins_at_holding held families heard index then Some index else None)
     (last_index heard.copy.identity families)
+
+abbrev pub index_joined : List Family → HeardCopy → Option ℕ
+index_joined = index_joined_holding most_families
 
 -- the family that a copy begins
 abbrev pub begun_by : HeardCopy → Family
@@ -82,12 +88,15 @@ joined_at families heard index =
     (slice_get families index) families
 
 -- the families, newest first, after one more copy
-unfoldable pub families_after : List Family → HeardCopy → List Family
-families_after families heard =
+unfoldable pub families_after_holding : ℕ → List Family → HeardCopy → List Family
+families_after_holding held families heard =
     if has_family heard then
-    option_map_or (joined_at families heard) (index_joined families heard)
+    option_map_or (joined_at families heard) (index_joined_holding held families heard)
     (begun_by heard ∷ families)
     else families
+
+abbrev pub families_after : List Family → HeardCopy → List Family
+families_after = families_after_holding most_families
 
 -- the copy as the positions of its family give it: they say how it ended, and its text
 unfoldable pub given_by : List Reception → TaggedCopy → TaggedCopy
@@ -135,17 +144,23 @@ combined_at families heard index =
     (slice_get families index) (alone None heard)
 
 -- the combined copy of a copy that comes behind these families
-unfoldable pub combined_copy : List Family → HeardCopy → CombinedCopy
-combined_copy families heard =
+unfoldable pub combined_copy_holding : ℕ → List Family → HeardCopy → CombinedCopy
+combined_copy_holding held families heard =
     if has_family heard then
-    option_map_or (combined_at families heard) (index_joined families heard)
+    option_map_or (combined_at families heard) (index_joined_holding held families heard)
     (alone (Some (length families)) heard)
     else alone None heard
 
+abbrev pub combined_copy : List Family → HeardCopy → CombinedCopy
+combined_copy = combined_copy_holding most_families
+
 -- the combined copies of copies that come behind these families, one for each that is selected, in
 -- the same order
-unfoldable pub combined_copies : List Family → List HeardCopy → List CombinedCopy
-combined_copies families [] = []
-combined_copies families (heard ∷ later) =
-    (if heard.copy.selected then combined_copy families heard ∷ [] else [])
-    ++ combined_copies (families_after families heard) later
+unfoldable pub combined_copies_holding : ℕ → List Family → List HeardCopy → List CombinedCopy
+combined_copies_holding held families [] = []
+combined_copies_holding held families (heard ∷ later) =
+    (if heard.copy.selected then combined_copy_holding held families heard ∷ [] else [])
+    ++ combined_copies_holding held (families_after_holding held families heard) later
+
+abbrev pub combined_copies : List Family → List HeardCopy → List CombinedCopy
+combined_copies = combined_copies_holding most_families

@@ -1,4 +1,6 @@
--- What judges combined copies holds, and which copies leave it so (this profile).
+-- What judges combined copies holds, and which copies leave it so (this profile). What is named
+-- `holding` takes first how many families are held; the same name without that word is its case of
+-- 200.
 use Rattle.std.specs.Prelude.{◌≡◌, ℕ, zero, suc, ◌-◌, ◌<◌, ◌==◌, Bool, false, if◌then◌else◌}
 use Rattle.std.specs.Prelude.{List, [], ◌∷◌, ◌++◌, fold, length, map, take, Option, Some}
 use Rattle.std.specs.List.{AllByRecursion, find}
@@ -11,8 +13,8 @@ use Rattle.nx_copies.specs.copies.FoundCopies.{TaggedCopy, headed_copy}
 use Rattle.nx_copies.specs.declared.entry.EntryHead.{EntryHead}
 use Rattle.nx_combine.specs.CombinedPrinting.{entry_made_combined, if_printed_combined}
 use Rattle.nx_combine.specs.CopyPositions.{HeardCopy}
-use Rattle.nx_combine.specs.Families.{CombinedCopy, Family, combined_copy, families_after}
-use Rattle.nx_combine.specs.Families.{most_families, most_positions}
+use Rattle.nx_combine.specs.Families.{CombinedCopy, Family, combined_copy_holding}
+use Rattle.nx_combine.specs.Families.{families_after_holding, most_families, most_positions}
 use Rattle.nx_combine.specs.declared.combiner.PrintedCopy.{PrintedCopy}
 
 -- what the line that heads an entry says of a copy
@@ -46,28 +48,40 @@ pub record Judged : Type 0 where
   pub printed : List CombinedCopy
 
 -- the combined copy of one more, if it is printed
-abbrev pub printed_by : Judged → HeardCopy → List CombinedCopy
-printed_by so_far heard =
-    if_printed_combined so_far.entries so_far.printed (combined_copy so_far.families heard)
+abbrev pub printed_by_holding : ℕ → Judged → HeardCopy → List CombinedCopy
+printed_by_holding held so_far heard =
+    if_printed_combined so_far.entries so_far.printed
+    (combined_copy_holding held so_far.families heard)
 
 -- what is left after one more
-abbrev pub judged_after : Judged → HeardCopy → Judged
-judged_after so_far heard = record {
+abbrev pub judged_after_holding : ℕ → Judged → HeardCopy → Judged
+judged_after_holding held so_far heard = record {
   entries = so_far.entries
-      ++ entry_made_combined so_far.entries so_far.printed (combined_copy so_far.families heard);
-  families = families_after so_far.families heard;
-  printed = printed_by so_far heard ++ so_far.printed;
+      ++ entry_made_combined so_far.entries so_far.printed
+      (combined_copy_holding held so_far.families heard);
+  families = families_after_holding held so_far.families heard;
+  printed = printed_by_holding held so_far heard ++ so_far.printed;
 }
 
+abbrev pub judged_after : Judged → HeardCopy → Judged
+judged_after = judged_after_holding most_families
+
 -- and after more of them
+abbrev pub judged_behind_holding : ℕ → Judged → List HeardCopy → Judged
+judged_behind_holding held so_far copies = fold (judged_after_holding held) so_far copies
+
 abbrev pub judged_behind : Judged → List HeardCopy → Judged
-judged_behind so_far copies = fold judged_after so_far copies
+judged_behind = judged_behind_holding most_families
 
 -- the combined copies that are printed of more of them, in order
+abbrev pub all_printed_holding : ℕ → Judged → List HeardCopy → List CombinedCopy
+all_printed_holding held so_far [] = []
+all_printed_holding held so_far (heard ∷ later) =
+    printed_by_holding held so_far heard
+    ++ all_printed_holding held (judged_after_holding held so_far heard) later
+
 abbrev pub all_printed : Judged → List HeardCopy → List CombinedCopy
-all_printed so_far [] = []
-all_printed so_far (heard ∷ later) =
-    printed_by so_far heard ++ all_printed (judged_after so_far heard) later
+all_printed = all_printed_holding most_families
 
 -- what a combiner holds: families, newest first; of each the head of its last combined copy that
 -- was printed, if one was; and the finder that reads joined positions
@@ -81,15 +95,18 @@ abbrev pub IsOfBegun : ℕ → CombinedCopy → Type 0
 IsOfBegun count one = (number : ℕ) → one.family ≡ Some number → number < count
 
 -- A combiner stands so after copies: these are all families that were begun, and these the combined
--- copies that were printed, each of one of these, both newest first. It holds the last 200
--- families.
-pub record StandsCombined (combiner : CombinerView) (families : List Family)
+-- copies that were printed, each of one of these, both newest first. It holds the last of the
+-- families, so many.
+pub record StandsHolding (count : ℕ) (combiner : CombinerView) (families : List Family)
     (before : List CombinedCopy)
     : Type 0 where
-  pub held : combiner.families ≡ take most_families families
-  pub printed : combiner.printed
-      ≡ take most_families (all_last_printed before (length families))
+  pub held : combiner.families ≡ take count families
+  pub printed : combiner.printed ≡ take count (all_last_printed before (length families))
   pub begun : AllByRecursion (IsOfBegun (length families)) before
+
+-- it holds the last 200
+abbrev pub StandsCombined : CombinerView → List Family → List CombinedCopy → Type 0
+StandsCombined = StandsHolding most_families
 
 -- where these families were begun, the combined copy is of the one of this index, newest first, and
 -- comes to this copy

@@ -1,4 +1,5 @@
--- What the laws of combined copies say.
+-- What the laws of combined copies say. What is named `holding` takes first how many families are
+-- held; the same name without that word is its case of 200.
 use Rattle.std.specs.Prelude.{◌≡◌, ◌⊎◌, ℕ, ◌+◌, ◌-◌, ◌<◌, ◌≤◌, Bool, true, false, List, [], ◌∷◌, ◌++◌, length, slice_get}
 use Rattle.std.specs.Prelude.{Contains, Option, Some, None, fold, map}
 use Rattle.std.specs.List.{AllByRecursion, filter, find}
@@ -12,10 +13,11 @@ use Rattle.nx_memory.specs.declared.memories.entry.MemoryEntry.{MemoryEntry}
 use Rattle.nx_copies.specs.copies.Printing.{is_remembered}
 use Rattle.nx_combine.specs.CombinedPrinting.{are_of_one_family}
 use Rattle.nx_combine.specs.CopyPositions.{HeardCopy}
-use Rattle.nx_combine.specs.Families.{CombinedCopy, Family, families_after, has_family, most_families}
-use Rattle.nx_combine.specs.Families.{combined, given_by, index_joined, seconds_joined}
+use Rattle.nx_combine.specs.Families.{CombinedCopy, Family, families_after_holding, has_family}
+use Rattle.nx_combine.specs.Families.{combined, given_by, index_joined_holding, most_families}
+use Rattle.nx_combine.specs.Families.{seconds_joined}
 use Rattle.nx_combine.specs.Joining.{joined, joined_position}
-use Rattle.nx_combine.specs.Judging.{Judged, judged_after}
+use Rattle.nx_combine.specs.Judging.{Judged, judged_after_holding}
 use Rattle.nx_combine.specs.PositionEnds.{ending_by}
 
 -- what two lists have at an index, where each has something or ends before it
@@ -107,8 +109,8 @@ pub record IsGivenBy (positions : List Reception) (one : CombinedCopy) : Type 0 
   pub copy : one.copy ≡ combined positions one.own.copy
 
 -- the families, newest first, behind these copies
-abbrev pub families_behind : List Family → List HeardCopy → List Family
-families_behind families copies = fold families_after families copies
+abbrev pub families_behind_holding : ℕ → List Family → List HeardCopy → List Family
+families_behind_holding held families copies = fold (families_after_holding held) families copies
 
 -- the copy bears the identity
 abbrev pub bears : Identity → HeardCopy → Bool
@@ -133,13 +135,16 @@ AreSendings sent behind moment identity copies =
     AllByRecursion (λ heard. bears identity heard ≡ true → IsSending sent behind moment heard)
     copies
 
--- where so many families were begun up to a first copy, fewer than 200 are begun between it and
--- each of these copies that bears the identity
+-- where so many families were begun up to a first copy, fewer than are held are begun between it
+-- and each of these copies that bears the identity
+abbrev pub FewBegunHolding : ℕ → Identity → ℕ → List Family → List HeardCopy → Type 0
+FewBegunHolding held identity first families [] = Unit {0}
+FewBegunHolding held identity first families (heard ∷ later) =
+    (bears identity heard ≡ true → length families < first + held)
+    × FewBegunHolding held identity first (families_after_holding held families heard) later
+
 abbrev pub FewBegun : Identity → ℕ → List Family → List HeardCopy → Type 0
-FewBegun identity first families [] = Unit {0}
-FewBegun identity first families (heard ∷ later) =
-    (bears identity heard ≡ true → length families < first + most_families)
-    × FewBegun identity first (families_after families heard) later
+FewBegun = FewBegunHolding most_families
 
 -- a combined copy that is full and has no error
 pub record IsWholeCopy (one : CombinedCopy) : Type 0 where
@@ -166,11 +171,14 @@ pub record IsOfPrinted (entries : List MemoryEntry) (before : List CombinedCopy)
 
 -- where so many entries were made up to a first copy, fewer than 200 are made between it and each
 -- of these copies that bears the identity
-abbrev pub FewMade : Identity → ℕ → Judged → List HeardCopy → Type 0
-FewMade identity first so_far [] = Unit {0}
-FewMade identity first so_far (heard ∷ later) =
+abbrev pub FewMadeHolding : ℕ → Identity → ℕ → Judged → List HeardCopy → Type 0
+FewMadeHolding held identity first so_far [] = Unit {0}
+FewMadeHolding held identity first so_far (heard ∷ later) =
     (bears identity heard ≡ true → length so_far.entries < first + most_entries)
-    × FewMade identity first (judged_after so_far heard) later
+    × FewMadeHolding held identity first (judged_after_holding held so_far heard) later
+
+abbrev pub FewMade : Identity → ℕ → Judged → List HeardCopy → Type 0
+FewMade = FewMadeHolding most_families
 
 -- at no index at which something was sent the position is idle
 abbrev pub IsNeverIdle : List ℕ → List Reception → Type 0
@@ -192,11 +200,11 @@ text_sent sent = (ending_by (map combination sent)).text
 
 -- What has to be met, so that a message is printed whole once, whatever else is heard. These copies
 -- were judged so far, then comes the first one that bears its identity, and then these.
-pub record AreHeardTogether (sent : List ℕ) (behind : ℕ → ℕ) (identity : Identity)
-    (so_far : Judged) (first : HeardCopy) (copies : List HeardCopy)
+pub record AreHeardTogetherHolding (held : ℕ) (sent : List ℕ) (behind : ℕ → ℕ)
+    (identity : Identity) (so_far : Judged) (first : HeardCopy) (copies : List HeardCopy)
     : Type 0 where
   -- The first copy begins a family, and no entry of its identity is live.
-  pub begins : index_joined so_far.families first ≡ None
+  pub begins : index_joined_holding held so_far.families first ≡ None
   pub unknown : is_remembered so_far.entries first.copy ≡ false
   -- The first copy and all others of the identity are sendings of the message, which arrive as what
   -- was sent, none before the first one.
@@ -207,11 +215,16 @@ pub record AreHeardTogether (sent : List ℕ) (behind : ℕ → ℕ) (identity :
   pub arrive : AllByRecursion (λ heard. bears identity heard ≡ true → Arrives sent heard) copies
   pub in_turn : AllByRecursion
       (λ heard. bears identity heard ≡ true → first.copy.moment ≤ heard.copy.moment) copies
-  -- 200 families and 200 entries suffice.
-  pub few_begun : FewBegun identity (length so_far.families + 1)
-      (families_after so_far.families first) copies
-  pub few_made : FewMade identity (length (judged_after so_far first).entries)
-      (judged_after so_far first) copies
+  -- The families that are held and 200 entries suffice.
+  pub few_begun : FewBegunHolding held identity (length so_far.families + 1)
+      (families_after_holding held so_far.families first) copies
+  pub few_made : FewMadeHolding held identity
+      (length (judged_after_holding held so_far first).entries)
+      (judged_after_holding held so_far first) copies
+
+abbrev pub AreHeardTogether : List ℕ → (ℕ → ℕ) → Identity → Judged → HeardCopy → List HeardCopy
+    → Type 0
+AreHeardTogether = AreHeardTogetherHolding most_families
 
 -- the combined copy bears the identity
 abbrev pub is_named : Identity → CombinedCopy → Bool

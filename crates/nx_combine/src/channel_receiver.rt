@@ -11,6 +11,7 @@ use std::alloc::{AllocError, Global};
 /// The receiver that takes several sendings together.
 impl<M: Renewing + FreshRecall> ChannelReceiver for CombinedReceiver<M> {
     ghost use Rattle.nx_combine.specs.CombinedReceiver.{AwaitsAfterAll, combined_kind};
+    ghost use Rattle.nx_combine.specs.Families.{most_families};
     ghost use Rattle.nx_combine.specs.private.CombiningLaws.{combining-receiver, none-awaited};
 
     type Over = Over;
@@ -63,7 +64,7 @@ impl<M: Renewing + FreshRecall> ChannelReceiver for CombinedReceiver<M> {
         CombinedReceiver::close(self)
     }
 
-    ghost laws = { combining-receiver M.content };
+    ghost laws = { combining-receiver most_families M.content };
 
-    ghost none_awaited = { none-awaited M.content };
+    ghost none_awaited = { none-awaited most_families M.content };
 }

@@ -17,6 +17,7 @@ ghost use Rattle.nx_receiver.specs.Receiver.{HeadsText, RefusesStart, entry_list
 ghost use Rattle.nx_combine.specs.CombinedPrinting.{PrintsCombinedToEnd};
 ghost use Rattle.nx_combine.specs.CombinedReceiver.{AwaitsAfterAll, JudgesNext, StandsAfterAll, combined_kind, hearer_in, text_in};
 ghost use Rattle.nx_combine.specs.CopyPositions.{HeardCopy};
+ghost use Rattle.nx_combine.specs.Families.{most_families};
 ghost use Rattle.nx_combine.specs.Judging.{Judged, StandsCombined};
 ghost use Rattle.nx_combine.specs.Notes.{noted};
 
@@ -228,7 +229,7 @@ impl<M: Renewing> CombinedReceiver<M> {
             → self.old.taker.notes.positions ≡ noted heard.positions
             → M.content self.old.memory ≡ last_of most_entries so_far.entries
             → StandsCombined self.old.combiner so_far.families so_far.printed
-            → JudgesNext M.content self.new.memory self.new.combiner so_far heard
+            → JudgesNext most_families M.content self.new.memory self.new.combiner so_far heard
             (headed_list result (text_in self.new)) }
         ensures taker { self.new.taker ≡ self.old.taker }
         ensures synchroniser { self.new.synchroniser ≡ self.old.synchroniser }

@@ -11,7 +11,7 @@ use Rattle.nx_copies.specs.copies.InTurn.{PrintsInTurn}
 use Rattle.nx_receiver.specs.Listener.{then_elements}
 use Rattle.nx_receiver.specs.Receiver.{HandsOutNoneBefore, Stands}
 use Rattle.nx_handle.specs.Receivers.{HearsGiven, Listening, OneReceiver, content}
-use Rattle.nx_copies.specs.copies.Log.{IsLog}
+use Rattle.nx_copies.specs.copies.Log.{IsEntry, IsLog}
 use Rattle.nx_copies.specs.copies.Shares.{Given, MarkedCopy, Starts, marked}
 use Rattle.nx_handle.specs.Life.{hearing}
 use Rattle.nx_handle.specs.Status.{number_of}
@@ -33,6 +33,13 @@ elements_of bytes = map element_of bytes
 -- the most bytes of an entry that is handed out
 abbrev pub longest_entry : ℕ
 longest_entry = 4163
+
+-- the entry of a copy is put into the room
+pub record PutsEntry (copy : MarkedCopy) (log : Room) : Type 0 where
+  pub bytes : List ℕ
+  pub spelled : IsEntry copy bytes
+  pub short : length bytes ≤ longest_entry
+  pub put : IsPut bytes log
 
 -- the status of a request to hear elements of a channel, with room for so many bytes, as many as an
 -- entry can need
@@ -61,6 +68,18 @@ pub record HearsOn (channel : Channel) (old new : OneReceiver) (bits : List Bool
       → Stands content start old history log
       → Stands content start new (history ++ events.elements bits) (log ++ next)
   pub first : HandsOutNoneBefore content old bits (length bits)
+
+-- So many of the elements of these bytes are heard so, and the entry of the copy that they print is
+-- put into the room; all, where nothing is printed.
+pub record HearsAndPuts (Hears : List Bool → List ℕ → Type 0) (bytes : List ℕ) (heard : ℕ)
+    (log : Room)
+    : Type 0 where
+  pub text : List ℕ
+  pub put : IsPut text log
+  pub short : length text ≤ longest_entry
+  pub within : heard ≤ length bytes
+  pub hears : Hears (elements_of (take heard bytes)) text
+  pub all : text ≡ [] → heard ≡ length bytes
 
 -- Elements of a channel are heard, and this is the log of the copies that they print: none, or one,
 -- which the last of them ends. Whatever was given before, and however much of these elements at

@@ -2,17 +2,16 @@
 
 ghost use Rattle.std.specs.Prelude.{◌≡◌, ◌∷◌, List, [], true, false, Some, None, if◌then◌else◌};
 ghost use Rattle.nx_copies.specs.copies.FoundCopies.{TaggedCopy};
-ghost use Rattle.nx_copies.specs.copies.Log.{IsEntry};
 ghost use Rattle.nx_copies.specs.copies.Shares.{MarkedCopy, marked};
 ghost use Rattle.nx_handle.specs.Closing.{AnswersClosing};
 ghost use Rattle.nx_handle.specs.Life.{EndPrints, EndsWith};
+ghost use Rattle.nx_handle.specs.Hearing.{PutsEntry};
 ghost use Rattle.nx_handle.specs.CallerRoom.{room};
 
-use crate::caller_room::put;
+use crate::caller_room::{put, put_entry};
 use crate::kept::Kept;
 use crate::status::Status;
-use arrayvec::ArrayVec;
-use nx_copies::{MAX_ENTRY, spell_entry};
+use nx_copies::MAX_ENTRY;
 use nx_fec::Channel;
 use nx_memory::PlainRecall;
 use nx_receiver::Receiver;
@@ -48,41 +47,43 @@ pub fn close_kept(kept: &mut Kept, log: &mut [u8], written: &mut usize) -> (u32,
         put(&[], log, written);
         return (Status::NoRoom.number(), true);
     }
-    if !end_next(kept) {
-        put(&[], log, written);
-        return (0, false);
+    if end_next(kept, log, written) {
+        return (0, true);
     }
-    put(&kept.entry, log, written);
-    (0, true)
+    put(&[], log, written);
+    (0, false)
 }
 
 /// Ends the channels that have not ended, in order, up to and with the first whose end prints an
-/// entry: says whether there is one. Then `entry` has its bytes.
-fn end_next(kept: &mut Kept) -> bool
-    ensures printed { result ≡ true → (copy : MarkedCopy) × IsEntry copy kept.new.entry.items
+/// entry, which is put into the caller's room: says whether there is one.
+fn end_next(kept: &mut Kept, log: &mut [u8], written: &mut usize) -> bool
+    ensures printed { result ≡ true → (copy : MarkedCopy)
+        × PutsEntry copy (room log.old log.new written.new)
         × ((left : List MarkedCopy) → EndsWith kept.new left → EndsWith kept.old (copy ∷ left)) }
-    ensures silent { result ≡ false → EndsWith kept.old [] }
+    ensures silent { result ≡ false → EndsWith kept.old [] × (log.new ≡ log.old) }
     ensures ended { kept.new.on_0 ≡ None }
 {
-    if end_on(&mut kept.on_0, Channel::Zero, &mut kept.entry) {
+    if end_on(&mut kept.on_0, Channel::Zero, log, written) {
         return true;
     }
-    if end_on(&mut kept.on_1, Channel::One, &mut kept.entry) {
+    if end_on(&mut kept.on_1, Channel::One, log, written) {
         return true;
     }
-    end_on(&mut kept.on_2, Channel::Two, &mut kept.entry)
+    end_on(&mut kept.on_2, Channel::Two, log, written)
 }
 
-/// Ends a channel in its place, where it hasn't ended: says whether that prints an entry. Then
-/// `entry` has its bytes.
+/// Ends a channel in its place, where it hasn't ended: says whether that prints an entry, which is
+/// put into the caller's room.
 fn end_on(
     place: &mut Option<Receiver<PlainRecall>>,
     channel: Channel,
-    entry: &mut ArrayVec<u8, MAX_ENTRY>,
+    log: &mut [u8],
+    written: &mut usize,
 ) -> bool
     ensures printed { result ≡ true → (copy : TaggedCopy)
-        × IsEntry (marked channel copy) entry.new.items × EndPrints place.old (copy ∷ []) }
-    ensures silent { result ≡ false → EndPrints place.old [] }
+        × PutsEntry (marked channel copy) (room log.old log.new written.new)
+        × EndPrints place.old (copy ∷ []) }
+    ensures silent { result ≡ false → EndPrints place.old [] × (log.new ≡ log.old) }
     ensures ended { place.new ≡ None }
 {
     let Some(receiver) = place else {
@@ -92,7 +93,7 @@ fn end_on(
         *place = None;
         return false;
     };
-    spell_entry(&head, receiver.text(), channel, entry);
+    put_entry(&head, receiver.text(), channel, log, written);
     *place = None;
     true
 }

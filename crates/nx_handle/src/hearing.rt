@@ -1,9 +1,9 @@
 //! Hearing elements.
 
-ghost use Rattle.std.specs.Prelude.{◌≡◌, ◌≢◌, ◌≤◌, [], false, true, IfErr, IfOk, OnOk, Some, if◌then◌else◌, length, take};
+ghost use Rattle.std.specs.Prelude.{◌≡◌, ◌≢◌, ◌≤◌, [], IfErr, IfOk, OnOk, Some};
 ghost use Rattle.std.specs.List.{list_all};
 ghost use Rattle.nx_fec.specs.air_files.Channels.{channel_number};
-ghost use Rattle.nx_handle.specs.Hearing.{AnswersHearing, HearsElements, elements_of, is_element, request_status};
+ghost use Rattle.nx_handle.specs.Hearing.{AnswersHearing, HearsAndPuts, HearsElements, is_element, request_status};
 ghost use Rattle.nx_handle.specs.Receivers.{three};
 ghost use Rattle.nx_handle.specs.CallerRoom.{IsPut, room};
 ghost use Rattle.nx_handle.specs.Status.{number_of};
@@ -13,7 +13,6 @@ use crate::caller_room::put;
 use crate::kept::Kept;
 use crate::pieces::hear_all;
 use crate::status::Status;
-use arrayvec::ArrayVec;
 use nx_copies::MAX_ENTRY;
 use nx_fec::Channel;
 use nx_memory::PlainRecall;
@@ -73,13 +72,7 @@ pub fn hear_kept(
         Ok(channel) => channel,
         Err(status) => return refuse(status, log, written),
     };
-    let (count, is_printed) = hear_on(on_0, on_1, on_2, channel, elements, &mut kept.entry);
-    *heard = count;
-    if is_printed {
-        put(&kept.entry, log, written);
-    } else {
-        put(&[], log, written);
-    }
+    *heard = hear_on(on_0, on_1, on_2, channel, elements, log, written);
     0
 }
 
@@ -92,27 +85,25 @@ fn refuse(status: Status, log: &mut [u8], written: &mut usize) -> u32
     status.number()
 }
 
-/// Hears elements of a channel with its receiver, of the three; says how many, and whether `entry`
-/// has the bytes of an entry then.
+/// Hears elements of a channel with its receiver, of the three, and puts what they print into the
+/// caller's room; says how many it heard.
 fn hear_on(
     on_0: &mut Receiver<PlainRecall>,
     on_1: &mut Receiver<PlainRecall>,
     on_2: &mut Receiver<PlainRecall>,
     channel: Channel,
     elements: &[u8],
-    entry: &mut ArrayVec<u8, MAX_ENTRY>,
-) -> (usize, bool)
-    ensures hears { HearsElements channel (three on_0.old on_1.old on_2.old)
-        (three on_0.new on_1.new on_2.new) (elements_of (take result.0 elements.now))
-        (if result.1 then entry.new.items else []) }
-    ensures within { result.0 ≤ length elements.now }
-    ensures all { result.1 ≡ false → result.0 ≡ length elements.now }
-    ensures some { result.1 ≡ true → entry.new.items ≢ [] }
+    log: &mut [u8],
+    written: &mut usize,
+) -> usize
+    ensures { HearsAndPuts (HearsElements channel (three on_0.old on_1.old on_2.old)
+        (three on_0.new on_1.new on_2.new)) elements.now result
+        (room log.old log.new written.new) }
 {
     match channel {
-        Channel::Zero => hear_all(on_0, channel, elements, entry),
-        Channel::One => hear_all(on_1, channel, elements, entry),
-        Channel::Two => hear_all(on_2, channel, elements, entry),
+        Channel::Zero => hear_all(on_0, channel, elements, log, written),
+        Channel::One => hear_all(on_1, channel, elements, log, written),
+        Channel::Two => hear_all(on_2, channel, elements, log, written),
     }
 }
 

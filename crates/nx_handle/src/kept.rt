@@ -1,7 +1,5 @@
 //! What is kept of a receiver between two calls.
 
-use arrayvec::ArrayVec;
-use nx_copies::MAX_ENTRY;
 use nx_memory::PlainRecall;
 use nx_receiver::Receiver;
 
@@ -15,6 +13,4 @@ pub struct Kept {
     pub on_1: Option<Receiver<PlainRecall>>,
     /// That of channel 2.
     pub on_2: Option<Receiver<PlainRecall>>,
-    /// Room for the bytes of an entry, so that none is cleared at each call.
-    pub entry: ArrayVec<u8, MAX_ENTRY>,
 }

@@ -13,7 +13,6 @@ ghost use Rattle.nx_handle.specs.Receivers.{OneReceiver, content};
 
 use crate::kept::Kept;
 use crate::status::Status;
-use arrayvec::ArrayVec;
 use nx_memory::{PlainRecall, Selection};
 use nx_receiver::{MomentFault, Receiver};
 use std::mem;
@@ -59,7 +58,6 @@ pub(crate) fn begin_empty(slot: &mut Option<Kept>)
         on_0: None,
         on_1: None,
         on_2: None,
-        entry: ArrayVec::new(),
     });
 }
 

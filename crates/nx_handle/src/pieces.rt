@@ -1,11 +1,11 @@
 //! Hearing elements, piece by piece.
 
-ghost use Rattle.std.specs.Prelude.{◌≡◌, ◌≢◌, ◌≤◌, [], false, true, if◌then◌else◌, length, take};
+ghost use Rattle.std.specs.Prelude.{◌≡◌, ◌≤◌, length};
 ghost use Rattle.nx_fec.specs.air_files.AirFile.{element_digit};
-ghost use Rattle.nx_handle.specs.Hearing.{HearsOn, element_of, elements_of};
+ghost use Rattle.nx_handle.specs.CallerRoom.{room};
+ghost use Rattle.nx_handle.specs.Hearing.{HearsAndPuts, HearsOn, element_of, elements_of};
 
-use arrayvec::ArrayVec;
-use nx_copies::{MAX_ENTRY, spell_entry};
+use crate::caller_room::{put, put_entry};
 use nx_fec::{Channel, PackedElements};
 use nx_memory::PlainRecall;
 use nx_receiver::Receiver;
@@ -14,18 +14,16 @@ use nx_receiver::Receiver;
 const MAX_PIECE: usize = 512;
 
 /// Hears elements of a channel with its receiver, up to and with the one that ends the first copy
-/// that is printed; says how many it heard, and whether `entry` has the bytes of an entry then.
+/// that is printed, and puts the bytes of its entry into the caller's room; says how many it heard.
 pub(crate) fn hear_all(
     receiver: &mut Receiver<PlainRecall>,
     channel: Channel,
     elements: &[u8],
-    entry: &mut ArrayVec<u8, MAX_ENTRY>,
-) -> (usize, bool)
-    ensures hears { HearsOn channel receiver.old receiver.new
-        (elements_of (take result.0 elements.now)) (if result.1 then entry.new.items else []) }
-    ensures within { result.0 ≤ length elements.now }
-    ensures all { result.1 ≡ false → result.0 ≡ length elements.now }
-    ensures some { result.1 ≡ true → entry.new.items ≢ [] }
+    log: &mut [u8],
+    written: &mut usize,
+) -> usize
+    ensures { HearsAndPuts (HearsOn channel receiver.old receiver.new) elements.now result
+        (room log.old log.new written.new) }
 {
     let mut heard = 0;
     while heard < elements.len() {
@@ -34,11 +32,12 @@ pub(crate) fn hear_all(
         let (count, head) = receiver.next_printed(&packed, 0);
         heard += count;
         if let Some(head) = head {
-            spell_entry(&head, receiver.text(), channel, entry);
-            return (heard, true);
+            put_entry(&head, receiver.text(), channel, log, written);
+            return heard;
         }
     }
-    (heard, false)
+    put(&[], log, written);
+    heard
 }
 
 /// Packs the elements of these bytes.

@@ -2,9 +2,7 @@
 -- the message EA01 with the one line TEST in the slot of station E, puts its entry, and its power
 -- fails. The second starts some time later, hears the message again, and its input ends. Both hear
 -- it with each DX word damaged, and nothing on the other channels.
-use Rattle.std.specs.Prelude.{◌≡◌, ℕ, ◌+◌, List, [], ◌∷◌, ◌++◌, map, Some}
-use Rattle.nx_combine.specs.CombinedPrinting.{combined}
-use Rattle.nx_combine.specs.CopyPositions.{placed_to_end}
+use Rattle.std.specs.Prelude.{ℕ, ◌+◌, List, [], ◌∷◌, ◌++◌, map, Some}
 use Rattle.nx_fec.specs.air_files.AirFile.{Line, moment}
 use Rattle.nx_fec.specs.air_files.BitLines.{bit_lines}
 use Rattle.nx_fec.specs.emissions.Emission.{bits_of}
@@ -12,13 +10,10 @@ use Rattle.nx_fec.specs.declared.air_files.channel.Channel.TheVariants.{Zero}
 use Rattle.nx_kept.specs.Kept.{closed_gate, open_gate}
 use Rattle.nx_promises.specs.examples.Chain.{found_on}
 use Rattle.nx_promises.specs.examples.Repeats.{first_copy}
-use Rattle.nx_copies.specs.copies.Shares.{MarkedCopy, marked, start_on}
+use Rattle.nx_copies.specs.copies.Shares.{MarkedCopy, marked}
 use Rattle.nx_promises.specs.examples.Emission.{damaged_words, worked_log}
-use Rattle.nx_promises.specs.examples.Together.{twice_heard, twice_parts}
-use Rattle.nx_promises.specs.laws.Together.{IsHeardTogether, IsThroughWith, behind_digit}
-use Rattle.nx_station.specs.reception.PathExample.{example_message, example_numbers}
-use Rattle.nx_left_on.specs.Chain.{ClocksAreNear, IsChainBy, Watch, acting_at, answered, events_in}
-use Rattle.nx_left_on.specs.Chain.{lines_of, stopped}
+use Rattle.nx_promises.specs.examples.Together.{twice_heard}
+use Rattle.nx_left_on.specs.Chain.{Watch, acting_at, answered, stopped}
 use Rattle.nx_watch.specs.Watch.{starts_at}
 
 -- the one entry, and the 44 bytes of the log that holds it
@@ -83,20 +78,3 @@ example_watches = watches_apart 14400
 -- this moment, and the elements of EA01 twice, each time without another letter
 abbrev pub twice_lines_at : ℕ → List Line
 twice_lines_at now = moment now ∷ bit_lines (bits_of twice_heard)
-
--- Two watches of a log that was empty at first, which take sendings together: each hears these
--- lines, the second one four hours later, and answers. In the first one the message is heard
--- together, and comes through.
-pub record IsWorkedTogether (first second : Watch) : Type 0 where
-  pub chain : IsChainBy combined [] (first ∷ second ∷ [])
-  pub clocks : ClocksAreNear Zero [] (first ∷ second ∷ [])
-  pub first_began : first.moment ≡ first_moment
-  pub second_began : second.moment ≡ 1735706400
-  pub first_took : lines_of first ≡ twice_lines_at first_moment
-  pub second_took : lines_of second ≡ twice_lines_at 1735706400
-  pub first_ended : first.ending ≡ answered
-  pub second_ended : second.ending ≡ answered
-  pub heard : IsHeardTogether placed_to_end (start_on first.starts Zero) (events_in Zero first)
-      twice_parts example_message example_numbers
-  pub came : IsThroughWith (behind_digit example_numbers) example_message.identity
-      (heard.first ∷ heard.later)

@@ -1,6 +1,6 @@
 //! Laws of a chain of watches of one kept log. Each function does nothing; its contract is the law.
 
-ghost use Rattle.std.specs.Prelude.{◌≡◌, ◌⊎◌, ◌≤◌, ℕ, ◌+◌, suc, true, false, Contains, List, [], ◌∷◌, ◌++◌, length, take, Option, Result};
+ghost use Rattle.std.specs.Prelude.{◌≡◌, ◌⊎◌, ◌≤◌, ℕ, ◌+◌, suc, true, false, Contains, List, [], ◌∷◌, ◌++◌, length, take, Err, Option, Result};
 ghost use Rattle.nx_envelope.specs.Message.{MessageView};
 ghost use Rattle.nx_fec.specs.Transfers.{CountedDevice};
 ghost use Rattle.nx_fec.specs.air_files.AirFile.{Line};
@@ -19,14 +19,16 @@ ghost use Rattle.nx_station.specs.reception.PathExample.{example_message};
 ghost use Rattle.nx_station.specs.reception.Sendings.{IsCut, IsSentAt, Part};
 ghost use Rattle.nx_watch.specs.Stamp.{Stamp};
 ghost use Rattle.nx_watch.specs.declared.watch_fault.WatchFault.{WatchFault};
+ghost use Rattle.nx_watch.specs.declared.watch_fault.WatchFault.TheVariants.{Disk};
+ghost use Rattle.nx_watch.specs.AnyLines.{AreLines};
 ghost use Rattle.nx_watch.specs.declared.watch_report.WatchReport.{WatchReport};
 ghost use Rattle.nx_watch.specs.Watch.{AnswersWatch, PrintsUntil, StandsForEntries, Stop, starts_at};
 ghost use Rattle.nx_left_on.specs.AtHand.{AtHand, telling};
-ghost use Rattle.nx_left_on.specs.ByEachRead.{HadTold};
+ghost use Rattle.nx_left_on.specs.ByEachRead.{HadTold, HadWrittenOn, HasWrittenOn};
 ghost use Rattle.nx_left_on.specs.Call.{IsOfCall, TellsAllKept, all_kept, left_at_any_moment, left_behind};
-ghost use Rattle.nx_left_on.specs.Chain.{ClocksAreNear, GoesOn, HadRead, IsChain, IsLeftBy, Puts, Watch, acting_at, all_copies, all_put, answered, kept_all_at, kept_some_at, stopped, with_copies};
+ghost use Rattle.nx_left_on.specs.Chain.{ClocksAreNear, GoesOn, HadRead, IsChain, IsLeftBy, Puts, Watch, acting_at, all_copies, all_put, answered, kept_all_at, kept_some_at, lines_of, stopped, with_copies};
 ghost use Rattle.nx_left_on.specs.Example.{example_watches, first_acting, first_moment, first_watch, kept_bytes, one_entry, second_acting, second_watch};
-ghost use Rattle.nx_left_on.specs.LeftOn.{HasEndedAt, IsHeardInTimeOver, IsUnknownOver};
+ghost use Rattle.nx_left_on.specs.LeftOn.{CutWatch, HasEndedAt, IsHeardInTimeOver, IsSentIn, IsUnknownOver, elements_in};
 
 use nx_kept::DiskFile;
 use std::io::{Read, Write};
@@ -127,6 +129,66 @@ pub fn what_there_is_to_tell_is_told_by_each_read<D: DiskFile, R: Read, W: Write
         → Contains a.stamps at → at.notices.failures ≡ 0
         → D.faults at.disk ≡ suc (D.faults a.disk)
         → HadTold (telling D.DiskFile R.remaining W.contents N.contents a) now log true at }
+{}
+
+/// What the disk doesn't take of what a watch prints is on its output by each read of its input.
+/// Where no put had failed by then, nothing had been written there. Where one had failed, the
+/// output had the copies from that one on, as the log has them, of all that are printed of the
+/// lines that were whole. A watch that ends with `Disk` wrote nothing, as where it couldn't open
+/// its log; or it wrote so all that it printed from a put on, up to a failed write.
+pub fn what_the_disk_does_not_take_is_written_by_each_read<
+    D: DiskFile,
+    R: Read,
+    W: Write,
+    N: Write,
+>()
+    ensures well { (a : AtHand D R W N) (now : ℕ) (log : List MarkedCopy)
+        (outcome : Result WatchReport WatchFault)
+        (at : Stamp D (CountedDevice W) (CountedDevice N))
+        → AnswersWatch (telling D.DiskFile R.remaining W.contents N.contents a) now log outcome
+        → Contains a.stamps at → D.faults at.disk ≡ D.faults a.disk
+        → at.writer ≡ a.writer }
+    ensures behind_a_failed_put { (a : AtHand D R W N) (now : ℕ) (log : List MarkedCopy)
+        (outcome : Result WatchReport WatchFault)
+        (at : Stamp D (CountedDevice W) (CountedDevice N))
+        → AnswersWatch (telling D.DiskFile R.remaining W.contents N.contents a) now log outcome
+        → Contains a.stamps at → D.faults at.disk ≡ suc (D.faults a.disk)
+        → HadWrittenOn (telling D.DiskFile R.remaining W.contents N.contents a) now log at }
+    ensures at_the_end { (a : AtHand D R W N) (now : ℕ) (log : List MarkedCopy)
+        → AnswersWatch (telling D.DiskFile R.remaining W.contents N.contents a) now log (Err Disk)
+        → (a.writer_after ≡ a.writer)
+        ⊎ HasWrittenOn (telling D.DiskFile R.remaining W.contents N.contents a) now log }
+{}
+
+/// Of which lines a watch of a call is sure. Where all is kept, it is sure of all its lines that
+/// act. Where it was left behind a read, it is sure of those that act among the lines that were
+/// whole by then. Where it was left at any moment, it is sure of none.
+pub fn a_watch_is_sure_of_what_was_whole_by_a_read<D: DiskFile, R: Read, W: Write, N: Write>()
+    ensures all_kept { (a : AtHand D R W N) (now : ℕ) (log : List MarkedCopy) (file : List ℕ)
+        (watch : Watch)
+        → IsOfCall (telling D.DiskFile R.remaining W.contents N.contents a).streams now log all_kept
+        file watch
+        → watch.sure ≡ lines_of watch }
+    ensures behind_a_read { (a : AtHand D R W N) (now : ℕ) (log : List MarkedCopy) (file : List ℕ)
+        (watch : Watch) (read : ℕ)
+        → (called : IsOfCall (telling D.DiskFile R.remaining W.contents N.contents a).streams now
+        log (left_behind read) file watch)
+        → (by_then : List (Option Line)) × (rest : List ℕ)
+        × AreLines (take read called.bytes) by_then rest
+        × (watch.sure ≡ acting_at now log (take (length by_then) called.lines)) }
+    ensures at_any_moment { (a : AtHand D R W N) (now : ℕ) (log : List MarkedCopy)
+        (file : List ℕ) (watch : Watch)
+        → IsOfCall (telling D.DiskFile R.remaining W.contents N.contents a).streams now log
+        left_at_any_moment file watch
+        → watch.sure ≡ [] }
+{}
+
+/// A sending that a watch didn't hear counts as none of it: one whose header has its second digit
+/// behind the elements that the watch heard on the channel.
+pub fn a_sending_behind_what_was_heard_is_none_of_a_watch()
+    ensures { (channel : Channel) (cuts : List CutWatch) (message : MessageView) (cut : CutWatch)
+        (place : ℕ) → length (elements_in channel cut.watch) ≤ place
+        → IsSentIn channel cuts message cut place → ⊥ }
 {}
 
 /// A crash may come at any moment of a call, also before its first read. Whatever `watch` answers,

@@ -12,15 +12,18 @@ ghost use Rattle.nx_envelope.specs.Message.{MessageView};
 ghost use Rattle.nx_envelope.specs.declared.identity.Identity.{Identity};
 ghost use Rattle.nx_fec.specs.air_files.AirFile.{Line};
 ghost use Rattle.nx_fec.specs.declared.air_files.channel.Channel.{Channel};
+ghost use Rattle.nx_fec.specs.declared.air_files.channel.Channel.TheVariants.{Zero};
 ghost use Rattle.nx_log.specs.Logged.{kept_entries};
 ghost use Rattle.nx_memory.specs.declared.memories.entry.MemoryEntry.{MemoryEntry};
+ghost use Rattle.nx_promises.specs.examples.Together.{twice_parts};
 ghost use Rattle.nx_promises.specs.laws.Together.{IsHeardTogether, IsPrintedWholeOnce, IsThroughWith, behind_digit};
 ghost use Rattle.nx_receiver.specs.air_file_runs.Listen.{events_on, given_by};
+ghost use Rattle.nx_station.specs.reception.PathExample.{example_message, example_numbers};
 ghost use Rattle.nx_station.specs.reception.Sendings.{Part};
 ghost use Rattle.nx_watch.specs.Watch.{PrintsUntilBy, StandsForEntries, Stop, starts_at};
-ghost use Rattle.nx_left_on.specs.Chain.{ClocksAreNear, HadReadBy, IsChainBy, IsLeftPrinting, Watch, acting_at, all_put, answered, events_in, kept_all_at, kept_some_at};
-ghost use Rattle.nx_left_on.specs.Example.{IsWorkedTogether};
-ghost use Rattle.nx_left_on.specs.Together.{IsOver, StandsLast};
+ghost use Rattle.nx_left_on.specs.Chain.{ClocksAreNear, HadReadBy, IsChainBy, IsLeftPrinting, Watch, acting_at, all_put, answered, events_in, kept_all_at, kept_some_at, lines_of};
+ghost use Rattle.nx_left_on.specs.Example.{first_moment, twice_lines_at};
+ghost use Rattle.nx_left_on.specs.Together.{IsKeptWhole, IsOver, StandsLast};
 
 /// What the clause `watched` of `nx_watch::watch_combined` says of its file makes it a watch of a
 /// chain that takes sendings together: the copies that its lines print together until it stopped,
@@ -126,9 +129,58 @@ pub fn a_message_that_stands_there_is_not_put_again()
         → IsOver entry (length stands.behind + length (kept_entries earlier)) copy }
 {}
 
-/// There is such a chain, of two watches of a log that was empty at first. The first hears EA01
-/// with the line TEST twice on channel 0, each time without another letter, so no copy is whole;
-/// and its input ends. A watch that starts four hours later hears the same.
+/// What it is for a message to be kept whole. Where the watch answered, the message is whole once
+/// among what it put on the channel. An entry of it stands last of its identity in the log then,
+/// and no watch behind it puts a copy of the identity again before the entry is over. Where the
+/// watch was cut off, a beginning of what it put has the message whole once, by the lines behind
+/// which it read on.
+pub fn a_message_that_is_kept_whole_is_not_put_again()
+    ensures answered { (log : List MarkedCopy) (watch : Watch) (after : List Watch)
+        (channel : Channel) (parts : List Part) (message : MessageView) (numbers : List ℕ)
+        → IsKeptWhole log watch after channel parts message numbers → watch.ending ≡ answered
+        → (heard : IsHeardTogether placed_to_end (start_on watch.starts channel)
+        (events_in channel watch) parts message numbers)
+        → (came : IsThroughWith (behind_digit numbers) message.identity
+        (heard.first ∷ heard.later))
+        → IsPrintedWholeOnce message (start_on watch.starts channel)
+        (heard.before ++ (came.up_to ++ came.one ∷ [])) came.rest (copies_on channel watch.put) }
+    ensures last { (log : List MarkedCopy) (watch : Watch) (after : List Watch)
+        (channel : Channel) (parts : List Part) (message : MessageView) (numbers : List ℕ)
+        → IsKeptWhole log watch after channel parts message numbers → watch.ending ≡ answered
+        → (heard : IsHeardTogether placed_to_end (start_on watch.starts channel)
+        (events_in channel watch) parts message numbers)
+        → IsThroughWith (behind_digit numbers) message.identity (heard.first ∷ heard.later)
+        → (entry : MemoryEntry) × (entry.identity ≡ message.identity)
+        × (last : StandsLast channel (log ++ watch.put) entry)
+        × (ClocksAreNear channel (log ++ watch.put) after → (earlier later : List TaggedCopy)
+        (copy : TaggedCopy) → copies_on channel (all_put after) ≡ earlier ++ copy ∷ later
+        → copy.identity ≡ message.identity → copies_of message.identity earlier ≡ []
+        → IsOver entry (length last.behind + length (kept_entries earlier)) copy) }
+    ensures surely { (log : List MarkedCopy) (watch : Watch) (after : List Watch)
+        (channel : Channel) (parts : List Part) (message : MessageView) (numbers : List ℕ)
+        → IsKeptWhole log watch after channel parts message numbers
+        → (heard : IsHeardTogether ended_placed (start_on watch.starts channel)
+        (events_on channel watch.sure) parts message numbers)
+        → (came : IsThroughWith (behind_digit numbers) message.identity
+        (heard.first ∷ heard.later))
+        → (surely : List TaggedCopy) × Begins surely (copies_on channel watch.put)
+        × IsPrintedWholeOnce message (start_on watch.starts channel)
+        (heard.before ++ (came.up_to ++ came.one ∷ [])) came.rest surely }
+{}
+
+/// There is a chain of two watches that take sendings together, of a log that was empty at first,
+/// in which a message is heard together. Each hears EA01 with the line TEST twice on channel 0,
+/// each time without another letter, so no copy is whole; and its input ends. The second one starts
+/// four hours later. In the first one the message is heard together, and comes through.
 pub fn there_is_a_chain_of_watches_with_a_message_heard_together()
-    ensures { (first second : Watch) × IsWorkedTogether first second }
+    ensures { (first second : Watch) × IsChainBy combined [] (first ∷ second ∷ [])
+        × ClocksAreNear Zero [] (first ∷ second ∷ [])
+        × (first.moment ≡ first_moment) × (second.moment ≡ first_moment + 14400)
+        × (lines_of first ≡ twice_lines_at first.moment)
+        × (lines_of second ≡ twice_lines_at second.moment)
+        × (first.ending ≡ answered) × (second.ending ≡ answered)
+        × (heard : IsHeardTogether placed_to_end (start_on first.starts Zero)
+        (events_in Zero first) twice_parts example_message example_numbers)
+        × IsThroughWith (behind_digit example_numbers) example_message.identity
+        (heard.first ∷ heard.later) }
 {}

@@ -8,7 +8,7 @@ use crate::handle::NxLive;
 use nx_handle::Kept;
 
 /// How many bytes of room a receiver needs: `NX_LIVE_ROOM` of the header.
-pub const ROOM: usize = 26_576;
+pub const ROOM: usize = 22_400;
 
 /// The alignment of that room.
 pub const ROOM_ALIGNMENT: usize = 8;

@@ -14,13 +14,14 @@ use Rattle.nx_receiver.specs.air_file_runs.Listen.{given_by}
 use Rattle.nx_receiver.specs.declared.air_file_runs.listen_fault.ListenFault.{ListenFault}
 use Rattle.nx_watch.specs.Acting.{goes_on}
 use Rattle.nx_watch.specs.AnyLines.{AreLines, cut_line}
-use Rattle.nx_watch.specs.Stamp.{Stamp}
+use Rattle.nx_watch.specs.Stamp.{CutNote, Stamp}
 use Rattle.nx_watch.specs.Watch.{RestsWithEntries, moments_at, starts_at}
 use Rattle.nx_program.specs.WatchCommand.{Beside, beside}
 
 -- What a run of the program has at hand, by values alone: its input, its output and standard error,
 -- as they stand before it and after it, and what opens a log. Then come the file of that log, where
--- one was opened, and what stood at each read of a watch.
+-- one was opened, what stood at each read of a watch, and what stood as its start told what it
+-- cuts.
 pub record RunAtHand (F D R W E : Type 0) : Type 0 where
   pub reader : CountedDevice R
   pub reader_after : CountedDevice R
@@ -31,6 +32,7 @@ pub record RunAtHand (F D R W E : Type 0) : Type 0 where
   pub files : F
   pub disk_after : Option D
   pub stamps : List (Stamp D (CountedDevice W) (CountedDevice E))
+  pub cuts : List (CutNote D (CountedDevice E))
 
 -- its input and its output, by what these tell of their bytes
 abbrev pub streams_in : {F D R W E : Type 0} → (R → Option (List ℕ)) → (W → Option (List ℕ))
@@ -44,6 +46,7 @@ abbrev pub beside_in : {F D R W E : Type 0} → (F → List ℕ → Result D Fil
     → TellsOfDisk D → (E → Option (List ℕ)) → RunAtHand F D R W E → Beside F D W E
 beside_in gives tells told run =
     beside run.files gives run.disk_after tells told run.faults run.faults_after run.stamps
+    run.cuts
 
 -- before a run the input tells that it has these bytes left, and the output that it holds these
 pub record TellBytes {R W : Type 0} (d : Devices R W) (input held : List ℕ) : Type 0 where

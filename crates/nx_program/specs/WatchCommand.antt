@@ -19,7 +19,8 @@ use Rattle.nx_disk.specs.declared.file.FileFault.TheVariants as file
 use Rattle.nx_watch.specs.Watch.{AnswersWatchBy, FailsWithin, HasCause, RefusesLog}
 use Rattle.nx_watch.specs.Watch.{StandsForEntries, WatchDevices, longest_entry}
 use Rattle.nx_watch.specs.LineRun.{TellsOfLines}
-use Rattle.nx_watch.specs.Stamp.{AreTheReads, Stamp}
+use Rattle.nx_watch.specs.Stamp.{AreTheReads, CutNote, Stamp}
+use Rattle.nx_watch.specs.ToldFirst.{TellsBeforeChange}
 use Rattle.nx_watch.specs.declared.watch_fault.WatchFault.{WatchFault}
 use Rattle.nx_watch.specs.declared.watch_fault.WatchFault.TheVariants as watch
 use Rattle.nx_watch.specs.declared.watch_report.WatchReport.{WatchReport}
@@ -34,7 +35,8 @@ use Rattle.nx_program.specs.declared.watch_command.WatchFailure.TheVariants.{Uno
 -- What the program has beside its input and its output, as it stands before a call and after it.
 -- That is what opens the file of a log, and what opening one may give; that file, where one was
 -- opened, and what it tells of itself; and standard error. With them stands what stood at each read
--- of the input of a watch, the last one first.
+-- of the input of a watch, the last one first; and what stood as its start told what it cuts of the
+-- log.
 pub record Beside (F D W E : Type 0) : Type 1 where
   pub files : F
   pub gives : F → List ℕ → Result D FileFault → Type 0
@@ -44,11 +46,13 @@ pub record Beside (F D W E : Type 0) : Type 1 where
   pub faults : CountedDevice E
   pub faults_after : CountedDevice E
   pub stamps : List (Stamp D (CountedDevice W) (CountedDevice E))
+  pub cuts : List (CutNote D (CountedDevice E))
 
 abbrev pub beside : {F D W E : Type 0} → F → (F → List ℕ → Result D FileFault → Type 0) → Option D
     → TellsOfDisk D → (E → Option (List ℕ)) → CountedDevice E → CountedDevice E
-    → List (Stamp D (CountedDevice W) (CountedDevice E)) → Beside F D W E
-beside files gives disk_after tells contents faults faults_after stamps = record {
+    → List (Stamp D (CountedDevice W) (CountedDevice E)) → List (CutNote D (CountedDevice E))
+    → Beside F D W E
+beside files gives disk_after tells contents faults faults_after stamps cuts = record {
   files = files;
   gives = gives;
   disk_after = disk_after;
@@ -57,16 +61,18 @@ beside files gives disk_after tells contents faults faults_after stamps = record
   faults = faults;
   faults_after = faults_after;
   stamps = stamps;
+  cuts = cuts;
 }
 
 -- the same with standard error as it stood at another moment after the call
 abbrev pub with_faults : {F D W E : Type 0} → Beside F D W E → CountedDevice E → Beside F D W E
 with_faults b after = record b { faults_after = after }
 
--- no file was opened, and no read was stamped
+-- no file was opened, no read was stamped, and no cut was noted
 pub record OpensNoFile {F D W E : Type 0} (b : Beside F D W E) : Type 0 where
   pub unopened : b.disk_after ≡ None
   pub unstamped : b.stamps ≡ []
+  pub unnoted : b.cuts ≡ []
 
 -- standard error as what it was told between two moments
 abbrev pub notices_between : {E : Type 0} → (E → Option (List ℕ)) → CountedDevice E
@@ -77,10 +83,11 @@ notices_between contents old new = record {
   failures = new.failures;
 }
 
--- no file was opened, no read was stamped, and nothing was told on standard error
+-- no file was opened, no read was stamped, no cut was noted, and nothing was told on standard error
 pub record IsUnused {F D W E : Type 0} (b : Beside F D W E) : Type 0 where
   pub unopened : b.disk_after ≡ None
   pub unstamped : b.stamps ≡ []
+  pub unnoted : b.cuts ≡ []
   pub untold : b.faults_after ≡ b.faults
 
 -- whether a file with this first byte begins as an entry does, with its bracket: so does a log that
@@ -147,8 +154,8 @@ module _ {R W F D E : Type 0} (d : Devices R W) (b : Beside F D W E) where
   -- where it was damaged, at which line, and with which byte it begins. Where it was no kept log,
   -- it was refused, and nothing was done but to read it. The disk is blamed only where it failed,
   -- and that was at a place within the file or at its end. Whatever the file was, the stamps are
-  -- the reads of the input; and it was told on standard error what is cut, and of some lines, and
-  -- nothing else.
+  -- the reads of the input; what is cut of the file had been told before the file was changed; and
+  -- it was told on standard error what is cut, and of some lines, and nothing else.
   pub record WatchesFile (sendings : Sendings) (moment : ℕ) (disk disk_after : D)
       (answer : Result WatchReport WatchFault)
       : Type 0 where
@@ -167,7 +174,7 @@ module _ {R W F D E : Type 0} (d : Devices R W) (b : Beside F D W E) where
         → OnlyReads (b.tells.seen start) (b.tells.may_leave start) b.tells.moment
         (b.tells.left_since start) disk disk_after
         × (d.reader_after ≡ d.reader) × (d.writer_after ≡ d.writer) × (b.faults_after ≡ b.faults)
-        × (b.stamps ≡ [])
+        × (b.stamps ≡ []) × (b.cuts ≡ [])
     pub stamps : (bytes : List ℕ) × Consumes (d.remaining d.reader.inner)
         (d.remaining d.reader_after.inner) bytes × AreTheReads b.stamps (length bytes)
     pub refused : (start : List ℕ) → b.tells.explains start disk_after
@@ -178,6 +185,8 @@ module _ {R W F D E : Type 0} (d : Devices R W) (b : Beside F D W E) where
         → FailsWithin b.tells start disk disk_after
     pub explained : (start : List ℕ) → b.tells.explains start disk_after
         → b.tells.explains start disk
+    pub told_first : (start : List ℕ) → b.tells.explains start disk_after
+        → TellsBeforeChange b.tells b.contents disk b.faults [] b.cuts start disk_after
     pub told : TellsOfLines (b.contents b.faults.inner) (b.contents b.faults_after.inner)
         b.faults_after.failures
 

@@ -18,7 +18,7 @@ use Rattle.nx_left_on.specs.Together.{IsKeptWhole}
 use Rattle.nx_copies.specs.copies.Shares.{MarkedCopy, copies_on}
 use Rattle.nx_copies.specs.laws.Once.{IsPrintedOnce}
 use Rattle.nx_station.specs.reception.Sendings.{Part}
-use Rattle.nx_watch.specs.Stamp.{Stamp}
+use Rattle.nx_watch.specs.Stamp.{CutNote, Stamp}
 use Rattle.nx_watch.specs.Watch.{StandsForEntries}
 use Rattle.nx_program.specs.WatchCommand.{Beside, WatchesLog, beside}
 use Rattle.nx_program.specs.declared.arguments.Sendings.{Sendings}
@@ -37,9 +37,9 @@ pub data RunEnd (A : Type 0) : Type 0 where
 
 -- A run of the program as a watch, by values alone: the name of its log, its MOMENT, and what opens
 -- the log. Then come its input, its output and standard error, as they stand before the watch and
--- after it, the file that is handed back, what stood at each read of the input, and what the
--- program answers. And there are the bytes that it found in the log, those that it left, and how it
--- ended.
+-- after it, the file that is handed back, what stood at each read of the input and as the start
+-- told what it cuts, and what the program answers. And there are the bytes that it found in the
+-- log, those that it left, and how it ended.
 pub record WatchRun (F D R W E : Type 0) : Type 0 where
   pub name : Text
   pub moment : ℕ
@@ -52,6 +52,7 @@ pub record WatchRun (F D R W E : Type 0) : Type 0 where
   pub faults_after : CountedDevice E
   pub disk_after : Option D
   pub stamps : List (Stamp D (CountedDevice W) (CountedDevice E))
+  pub cuts : List (CutNote D (CountedDevice E))
   pub outcome : Result (Unit {0}) Fault
   pub found : List ℕ
   pub left : List ℕ
@@ -105,6 +106,7 @@ module _ {F D R W E : Type 0} (gives : F → List ℕ → Result D FileFault →
   abbrev pub beside_of : WatchRun F D R W E → Beside F D W E
   beside_of run =
       beside run.files gives run.disk_after tells told run.faults run.faults_after run.stamps
+      run.cuts
 
   -- These bytes are what a run could leave in this file that ended so. Where it was over and kept
   -- all, that is what a read finds then, or what a crash may leave. Else a crash leaves it at some

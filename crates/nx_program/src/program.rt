@@ -8,7 +8,7 @@ ghost use Rattle.nx_program.specs.Program.{Succeeds, WritesText, fresh_device, v
 ghost use Rattle.nx_program.specs.Report.{Answers, IsFaultLine, IsWantOfArguments, LacksArguments, WritesOne};
 ghost use Rattle.nx_program.specs.Status.{IsStatus};
 ghost use Rattle.nx_program.specs.WatchCommand.{WatchesLog, beside, notices_between};
-ghost use Rattle.nx_watch.specs.Stamps.{IsFresh, counted_of, stamps_of};
+ghost use Rattle.nx_watch.specs.Stamps.{counted_of, cut_notes, stamps_of};
 ghost use Rattle.nx_program.specs.Arguments.{IsRefused, Names, as_read};
 ghost use Rattle.nx_program.specs.Arguments.{help_words as the_words};
 ghost use Rattle.nx_program.specs.private.Reading.{EndsUncalled, ExplainsArguments, IsOnStreams, told_of_call};
@@ -201,23 +201,23 @@ struct Obeyed<'a, I, D> {
 }
 
 /// Reads the arguments and does what they ask for. The log's file is handed back, if one was
-/// opened. The reads of a watch alone need stamps.
+/// opened. The reads of a watch alone are stamped.
 fn obey<'a, S: AsStr, R: Read, W: Write, E: Write, F: LogFiles + Drop>(
     alloc: Global,
     arguments: &'a [S],
-    input: Input<R, F::Disk, W, E>,
+    mut input: Counting<R>,
     writer: &mut Counting<W>,
     faults: &mut Counting<E>,
     files: F,
 ) -> Obeyed<'a, Input<R, F::Disk, W, E>, F::Disk>
-    requires input { IsFresh input }
+    requires input { input.failures ≡ 0 }
     requires writer { writer.old.failures ≡ 0 }
     requires faults { faults.old.failures ≡ 0 }
     ensures { EndsRun (map S.text arguments.now)
-        (devices R.remaining W.contents (counted_of input) (counted_of result.input) writer.old
+        (devices R.remaining W.contents input (counted_of result.input) writer.old
         writer.new)
         (beside files F.gives result.file F.Disk.DiskFile E.contents faults.old faults.new
-        (stamps_of result.input))
+        (stamps_of result.input) (cut_notes result.input))
         result.outcome }
 {
     match call_of(alloc, arguments) {
@@ -236,17 +236,16 @@ fn obey<'a, S: AsStr, R: Read, W: Write, E: Write, F: LogFiles + Drop>(
             },
         ) => log_input(alloc, &query, form, reading, input, writer, faults),
         Ok(call) => {
-            let mut reader = input.into_inner();
-            let outcome = perform(alloc, call, &mut reader, writer);
+            let outcome = perform(alloc, call, &mut input, writer);
             Obeyed {
                 outcome: call_outcome(outcome),
-                input: StampedReader::new(reader),
+                input: StampedReader::new(input),
                 file: None,
             }
         }
         Err(why) => Obeyed {
             outcome: answer_uncalled(alloc, why, writer),
-            input,
+            input: StampedReader::new(input),
             file: None,
         },
     }
@@ -259,20 +258,21 @@ fn watch_input<'a, R: Read, W: Write, E: Write, F: LogFiles + Drop>(
     log: FileName<'a>,
     moment: u64,
     files: F,
-    mut input: Input<R, F::Disk, W, E>,
+    input: Counting<R>,
     writer: &mut Counting<W>,
     faults: &mut Counting<E>,
 ) -> Obeyed<'a, Input<R, F::Disk, W, E>, F::Disk>
-    requires input { IsFresh input }
+    requires input { input.failures ≡ 0 }
     requires writer { writer.old.failures ≡ 0 }
     requires faults { faults.old.failures ≡ 0 }
     ensures { WatchesLog
-        (devices R.remaining W.contents (counted_of input) (counted_of result.input) writer.old
+        (devices R.remaining W.contents input (counted_of result.input) writer.old
         writer.new)
         (beside files F.gives result.file F.Disk.DiskFile E.contents faults.old faults.new
-        (stamps_of result.input))
+        (stamps_of result.input) (cut_notes result.input))
         sendings log.entry moment result.outcome }
 {
+    let mut input = StampedReader::new(input);
     let (outcome, file) = watch_log(
         alloc, sendings, log, moment, files, &mut input, writer, faults,
     );
@@ -284,37 +284,30 @@ fn watch_input<'a, R: Read, W: Write, E: Write, F: LogFiles + Drop>(
 }
 
 /// Prints the entries of the log on the input that the query admits, and tells of torn ones
-/// and of what is passed over. Its reads need no stamps.
+/// and of what is passed over. Its reads aren't stamped.
 fn log_input<R: Read, D, W: Write, E: Write>(
     alloc: Global,
     query: &Query,
     form: Form,
     reading: ReadAs,
-    input: Input<R, D, W, E>,
+    input: Counting<R>,
     writer: &mut Counting<W>,
     faults: &mut Counting<E>,
 ) -> Obeyed<'static, Input<R, D, W, E>, D>
-    requires input { IsFresh input }
+    requires input { input.failures ≡ 0 }
     requires writer { writer.old.failures ≡ 0 }
     requires faults { faults.old.failures ≡ 0 }
     requires readable { IsReadable reading }
     ensures ended { EndsLog query.now form reading
-        (devices R.remaining W.contents (counted_of input) (counted_of result.input) writer.old
+        (devices R.remaining W.contents input (counted_of result.input) writer.old
         writer.new)
         (notices_between E.contents faults.old faults.new)
         result.outcome }
     ensures unopened { result.file ≡ None }
     ensures unstamped { stamps_of result.input ≡ [] }
+    ensures unnoted { cut_notes result.input ≡ [] }
 {
-    let (outcome, reader) = print_log(
-        alloc,
-        query,
-        form,
-        reading,
-        input.into_inner(),
-        writer,
-        faults,
-    );
+    let (outcome, reader) = print_log(alloc, query, form, reading, input, writer, faults);
     Obeyed {
         outcome,
         input: StampedReader::new(reader),
@@ -397,19 +390,19 @@ pub struct Answered<I, D> {
 fn status_by_words<S: AsStr, R: Read, W: Write, E: Write, F: LogFiles + Drop>(
     alloc: Global,
     arguments: &[S],
-    input: Input<R, F::Disk, W, E>,
+    input: Counting<R>,
     writer: &mut Counting<W>,
     faults: &mut Counting<E>,
     files: F,
 ) -> Answered<Input<R, F::Disk, W, E>, F::Disk>
-    requires input { IsFresh input }
+    requires input { input.failures ≡ 0 }
     requires writer { writer.old.failures ≡ 0 }
     requires faults { faults.old.failures ≡ 0 }
     ensures { Answers (map S.text arguments.now)
-        (devices R.remaining W.contents (counted_of input) (counted_of result.input) writer.old
+        (devices R.remaining W.contents input (counted_of result.input) writer.old
         writer.new)
         (beside files F.gives result.file F.Disk.DiskFile E.contents faults.old faults.new
-        (stamps_of result.input))
+        (stamps_of result.input) (cut_notes result.input))
         result.status }
 {
     let Obeyed {
@@ -470,19 +463,19 @@ fn words_of_help<'a, S: AsStr>(arguments: &'a [S]) -> Option<ArrayVec<&'a str, H
 fn exit_status<S: AsStr, R: Read, W: Write, E: Write, F: LogFiles + Drop>(
     alloc: Global,
     arguments: &[S],
-    input: Input<R, F::Disk, W, E>,
+    input: Counting<R>,
     writer: &mut Counting<W>,
     faults: &mut Counting<E>,
     files: F,
 ) -> Answered<Input<R, F::Disk, W, E>, F::Disk>
-    requires input { IsFresh input }
+    requires input { input.failures ≡ 0 }
     requires writer { writer.old.failures ≡ 0 }
     requires faults { faults.old.failures ≡ 0 }
     ensures { Answers (as_read (map S.text arguments.now))
-        (devices R.remaining W.contents (counted_of input) (counted_of result.input) writer.old
+        (devices R.remaining W.contents input (counted_of result.input) writer.old
         writer.new)
         (beside files F.gives result.file F.Disk.DiskFile E.contents faults.old faults.new
-        (stamps_of result.input))
+        (stamps_of result.input) (cut_notes result.input))
         result.status }
 {
     match words_of_help(arguments) {
@@ -506,16 +499,16 @@ fn want_of_arguments(reason: &io::Error) -> Fault<'static>
 /// for, of which the first is the program's name. Reports a fault on `faults`, and answers the exit
 /// status. Where the arguments can't be had, it reports why. After the answer nothing more is read
 /// or written. A watch opens its log by `files`; the open file is handed back, and so is the input,
-/// with what stood at each of its reads.
+/// with what stood at each of its reads, and as the start of a watch told what it cuts of its log.
 pub fn answer<R: Read, W: Write, E: Write, F: LogFiles + Drop>(
     alloc: Global,
     arguments: io::Result<Vec<String>>,
-    input: Input<R, F::Disk, W, E>,
+    input: Counting<R>,
     output: &mut Counting<W>,
     faults: &mut Counting<E>,
     files: F,
 ) -> Answered<Input<R, F::Disk, W, E>, F::Disk>
-    requires input { IsFresh input }
+    requires input { input.failures ≡ 0 }
     requires output { output.old.failures ≡ 0 }
     requires faults { faults.old.failures ≡ 0 }
 
@@ -523,16 +516,16 @@ pub fn answer<R: Read, W: Write, E: Write, F: LogFiles + Drop>(
     // arguments; or why there were none.
     ensures exits { MatchResult arguments
         (λ given. Answers (as_read (map string_bytes given.items))
-        (devices R.remaining W.contents (counted_of input) (counted_of result.input) output.old
+        (devices R.remaining W.contents input (counted_of result.input) output.old
         output.new)
         (beside files F.gives result.file F.Disk.DiskFile E.contents faults.old faults.new
-        (stamps_of result.input))
+        (stamps_of result.input) (cut_notes result.input))
         result.status)
         (λ reason. LacksArguments reason
-        (devices R.remaining W.contents (counted_of input) (counted_of result.input) output.old
+        (devices R.remaining W.contents input (counted_of result.input) output.old
         output.new)
         (beside files F.gives result.file F.Disk.DiskFile E.contents faults.old faults.new
-        (stamps_of result.input))
+        (stamps_of result.input) (cut_notes result.input))
         result.status) }
     ensures status { IsStatus result.status }
 
@@ -540,19 +533,19 @@ pub fn answer<R: Read, W: Write, E: Write, F: LogFiles + Drop>(
     // It says of each of them what stands on standard error.
     ensures success { IfOk arguments (λ given. result.status ≡ 0
         → Succeeds (as_read (map string_bytes given.items))
-        (devices R.remaining W.contents (counted_of input) (counted_of result.input) output.old
+        (devices R.remaining W.contents input (counted_of result.input) output.old
         output.new)
         (beside files F.gives result.file F.Disk.DiskFile E.contents faults.old faults.new
-        (stamps_of result.input))) }
+        (stamps_of result.input) (cut_notes result.input))) }
 
     // A success of arguments that name a call is the success of that call.
     ensures called { IfOk arguments
         (λ given. (call : Call) → Names (as_read (map string_bytes given.items)) call
         → result.status ≡ 0 → Performs call
-        (devices R.remaining W.contents (counted_of input) (counted_of result.input) output.old
+        (devices R.remaining W.contents input (counted_of result.input) output.old
         output.new)
         (beside files F.gives result.file F.Disk.DiskFile E.contents faults.old faults.new
-        (stamps_of result.input))
+        (stamps_of result.input) (cut_notes result.input))
         (Ok tt)) }
 
     // A fault leaves one text, behind what a watch and a run over a log told there: `navtex: `, the
@@ -565,7 +558,7 @@ pub fn answer<R: Read, W: Write, E: Write, F: LogFiles + Drop>(
         Ok(arguments) => exit_status(alloc, arguments.as_slice(), input, output, faults, files),
         Err(reason) => Answered {
             status: want_of_arguments(&reason).report(faults),
-            input,
+            input: StampedReader::new(input),
             file: None,
         },
     }
@@ -586,7 +579,7 @@ pub fn run<S: AsStr, R: Read + Drop, W: Write + Drop, E: Write + Drop>(
         × Exits (as_read (map S.text arguments.now))
         (devices R.remaining W.contents (fresh_device input) reader (fresh_device output) writer)
         (beside (record {}) ⟦<NoFiles as LogFiles>⟧.gives None
-        ⟦<Noted<NoFile> as DiskFile>⟧ E.contents (fresh_device faults) told [])
+        ⟦<Noted<NoFile> as DiskFile>⟧ E.contents (fresh_device faults) told [] [])
         result }
     ensures status { IsStatus result }
 
@@ -596,7 +589,7 @@ pub fn run<S: AsStr, R: Read + Drop, W: Write + Drop, E: Write + Drop>(
         × Succeeds (as_read (map S.text arguments.now))
         (devices R.remaining W.contents (fresh_device input) reader (fresh_device output) writer)
         (beside (record {}) ⟦<NoFiles as LogFiles>⟧.gives None
-        ⟦<Noted<NoFile> as DiskFile>⟧ E.contents (fresh_device faults) told []) }
+        ⟦<Noted<NoFile> as DiskFile>⟧ E.contents (fresh_device faults) told [] []) }
 
     // A success of arguments that name a call is the success of that call.
     ensures called { (call : Call) → Names (as_read (map S.text arguments.now)) call
@@ -605,13 +598,13 @@ pub fn run<S: AsStr, R: Read + Drop, W: Write + Drop, E: Write + Drop>(
         × Performs call
         (devices R.remaining W.contents (fresh_device input) reader (fresh_device output) writer)
         (beside (record {}) ⟦<NoFiles as LogFiles>⟧.gives None
-        ⟦<Noted<NoFile> as DiskFile>⟧ E.contents (fresh_device faults) told [])
+        ⟦<Noted<NoFile> as DiskFile>⟧ E.contents (fresh_device faults) told [] [])
         (Ok tt) }
     ensures arguments { result ≡ 64 → IsRefused (as_read (map S.text arguments.now)) }
     ensures refused { IsRefused (as_read (map S.text arguments.now))
         → (result ≡ 64) ⊎ (result ≡ 1) }
 {
-    let reader = StampedReader::new(Counting::new(input));
+    let reader = Counting::new(input);
     let mut writer = Counting::new(output);
     let mut lines = Counting::new(faults);
     exit_status(alloc, arguments, reader, &mut writer, &mut lines, NoFiles).status

@@ -1,6 +1,6 @@
 //! The watch of a log: how its file is opened, and how a failure is told.
 
-ghost use Rattle.std.specs.Prelude.{◌≡◌, List, ℕ, Option, Result, Err, Some, ◌++◌};
+ghost use Rattle.std.specs.Prelude.{◌≡◌, [], List, ℕ, Option, Result, Err, Some, ◌++◌};
 ghost use Rattle.nx_fec.specs.Transfers.{devices};
 ghost use Rattle.nx_disk.specs.declared.file.FileFault.TheVariants.{Open};
 ghost use Rattle.nx_program.specs.Status.{watch_failure_status};
@@ -8,7 +8,7 @@ ghost use Rattle.nx_program.specs.declared.watch_command.WatchFailure.TheVariant
 ghost use Rattle.nx_program.specs.WatchCommand as spec;
 ghost use Rattle.nx_program.specs.WatchCommand.{WatchesLog, beside, watch_fault_line, watch_outcome};
 ghost use Rattle.nx_watch.specs.LineRun.{HasTold};
-ghost use Rattle.nx_watch.specs.Stamps.{IsFresh, counted_of, stamps_of};
+ghost use Rattle.nx_watch.specs.Stamps.{IsFresh, counted_of, cut_notes, stamps_of};
 
 use crate::arguments::Sendings;
 use crate::fault::Fault;
@@ -270,13 +270,14 @@ pub fn watch_log<'a, F: LogFiles, R: Read, W: Write, E: Write>(
     faults: &mut Counting<E>,
 ) -> (Result<(), Fault<'a>>, Option<F::Disk>)
     requires reader { IsFresh reader.old }
+    requires unnoted { cut_notes reader.old ≡ [] }
     requires writer { writer.old.failures ≡ 0 }
     requires faults { faults.old.failures ≡ 0 }
     ensures { WatchesLog
         (devices R.remaining W.contents (counted_of reader.old) (counted_of reader.new) writer.old
         writer.new)
         (beside files F.gives result.1 F.Disk.DiskFile E.contents faults.old faults.new
-        (stamps_of reader.new))
+        (stamps_of reader.new) (cut_notes reader.new))
         sendings log.entry moment result.0 }
 {
     match files.open(log.as_str()) {

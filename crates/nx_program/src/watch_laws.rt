@@ -1,7 +1,7 @@
 //! The law of a receiver that is left on, of runs of the program. Each function does nothing; its
 //! contract is the law.
 
-ghost use Rattle.std.specs.Prelude.{◌≡◌, ◌⊎◌, ℕ, Contains, List, [], Ok, Result, Some};
+ghost use Rattle.std.specs.Prelude.{◌≡◌, ◌≢◌, ◌⊎◌, ℕ, Contains, List, [], ◌∷◌, Ok, Result, Some};
 ghost use Rattle.clap.specs.Words.{Text};
 ghost use Rattle.nx_disk.specs.Fresh.{IsFresh};
 ghost use Rattle.nx_fec.specs.Transfers.{CountedDevice};
@@ -14,7 +14,9 @@ ghost use Rattle.nx_program.specs.declared.arguments.Sendings.{Sendings};
 ghost use Rattle.nx_program.specs.declared.arguments.Sendings.TheVariants.{Alone, Together};
 ghost use Rattle.nx_program.specs.declared.fault.Fault.{Fault};
 ghost use Rattle.nx_copies.specs.copies.Shares.{MarkedCopy};
-ghost use Rattle.nx_watch.specs.Watch.{StandsForEntries};
+ghost use Rattle.nx_watch.specs.LineRun.{HasTold};
+ghost use Rattle.nx_watch.specs.Stamp.{CutNote};
+ghost use Rattle.nx_watch.specs.Watch.{StandsForEntries, TellsOfCut};
 
 use crate::watch_command::{LogFiles, SystemFiles};
 use nx_disk::{LogFile, Noted};
@@ -105,6 +107,32 @@ pub fn a_run_that_hands_its_log_back_watched_it<F: LogFiles, R: Read, W: Write, 
         (with_faults (beside_of F.gives F.Disk.DiskFile R.remaining W.contents E.contents run)
         behind)
         sendings run.name run.moment outcome }
+{}
+
+/// Where such a run has changed its log, what its start cut had been told on standard error before.
+/// As that was told, a read found what it had found at first, and a crash left what it could leave
+/// before the run. Only a failed write there could keep it from being told whole.
+pub fn what_a_run_cuts_is_told_before_it_is_cut<F: LogFiles, R: Read, W: Write, E: Write>()
+    ensures { (arguments : List Text) (sendings : Sendings) (run : WatchRun F F.Disk R W E)
+        (reported : CountedDevice E) (disk : F.Disk) (status : ℕ)
+        → OpensFresh F.gives F.Disk.DiskFile
+        → Names arguments (Watch sendings run.name run.moment)
+        → run.disk_after ≡ Some disk
+        → F.Disk.explains run.found disk
+        → (F.Disk.seen run.found disk ≡ run.found → ⊥)
+        → Answers arguments
+        (streams_of F.gives F.Disk.DiskFile R.remaining W.contents E.contents run)
+        (with_faults (beside_of F.gives F.Disk.DiskFile R.remaining W.contents E.contents run)
+        reported)
+        status
+        → (opened : F.Disk) × F.gives run.files run.name (Ok opened)
+        × (cut : List ℕ) × TellsOfCut run.found cut
+        × (cut ≢ [] → (note : CutNote F.Disk (CountedDevice E)) × (run.cuts ≡ note ∷ [])
+        × (F.Disk.seen run.found note.disk ≡ run.found)
+        × ((file : List ℕ) → F.Disk.may_leave run.found note.disk file
+        → F.Disk.may_leave run.found opened file)
+        × HasTold (E.contents run.faults.inner) (E.contents note.notices.inner)
+        note.notices.failures cut) }
 {}
 
 /// Opening a log in the files of the system gives a file of which no call was made.

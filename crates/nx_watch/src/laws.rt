@@ -1,14 +1,16 @@
 //! Laws of the lines of any bytes, and of a start, over their definitions: each is the contract of
 //! a function that does nothing.
 
-ghost use Rattle.std.specs.Prelude.{◌≡◌, ◌≢◌, ℕ, List, [], ◌∷◌, Option};
-ghost use Rattle.nx_fec.specs.Transfers.{CountedDevice};
+ghost use Rattle.std.specs.Prelude.{◌≡◌, ◌≢◌, ◌+◌, ◌<◌, ◌≤◌, ℕ, Contains, List, [], ◌∷◌, Option};
+ghost use Rattle.nx_fec.specs.Transfers.{CountedDevice, max_piece};
 ghost use Rattle.nx_fec.specs.air_files.AirFile.{Line};
 ghost use Rattle.nx_watch.specs.AnyLines.{AreLines};
 ghost use Rattle.nx_watch.specs.LineRun.{HasTold};
-ghost use Rattle.nx_watch.specs.Stamp.{CutNote};
+ghost use Rattle.nx_watch.specs.LinesTold.{LacksEffect};
+ghost use Rattle.nx_watch.specs.Stamp.{AreTheReads, CutNote, Stamp};
 ghost use Rattle.nx_watch.specs.ToldFirst.{TellsBeforeChange};
 ghost use Rattle.nx_watch.specs.Watch.{TellsOfCut};
+ghost use Rattle.nx_watch.specs.declared.lines.no_effect.NoEffect.{NoEffect};
 
 use nx_kept::DiskFile;
 use std::io::Write;
@@ -20,6 +22,23 @@ pub fn every_bytes_have_one_reading()
         → (lines : List (Option Line)) × (rest : List ℕ) × AreLines bytes lines rest }
     ensures one { (bytes : List ℕ) (a b : List (Option Line)) (x y : List ℕ) → AreLines bytes a x
         → AreLines bytes b y → (a ≡ b) × (x ≡ y) }
+{}
+
+/// Of a line without effect one reason is told: where two reasons are why the line of this number
+/// has none, they are the same.
+pub fn a_line_without_effect_has_one_reason()
+    ensures { (bytes : List ℕ) (lines : List (Option Line)) (number : ℕ) (why other : NoEffect)
+        → LacksEffect bytes lines number why → LacksEffect bytes lines number other
+        → why ≡ other }
+{}
+
+/// Each byte of the input of a watch came by a read that has a stamp: it stands in what that read
+/// gave, which is at most 65,536 bytes.
+pub fn each_byte_comes_by_a_read_with_a_stamp<D: DiskFile, W: Write, N: Write>()
+    ensures { (stamps : List (Stamp D (CountedDevice W) (CountedDevice N))) (total place : ℕ)
+        → AreTheReads stamps total → place < total
+        → (at : Stamp D (CountedDevice W) (CountedDevice N)) × Contains stamps at
+        × (at.read ≤ place) × (place < at.read + at.gave) × (at.gave ≤ max_piece) }
 {}
 
 /// Where a watch has changed its file, what its start cuts had been told before: as that was noted,

@@ -2,7 +2,7 @@
 // navtex-live.h. Each has the numbers of the module's memory as its arguments; here a method takes
 // bytes and gives bytes.
 
-const ROOM = 26576; // NX_LIVE_ROOM of the header
+const ROOM = 22400; // NX_LIVE_ROOM of the header
 const MAX_ENTRY = 4163; // NX_LIVE_MAX_ENTRY
 const MAX_STATE = 11001; // no text of a state is longer
 const MAX_TEXT = 4100; // no text of an entry is longer

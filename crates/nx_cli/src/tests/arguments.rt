@@ -9,7 +9,6 @@ use nx_program::laws::{
 };
 use nx_program::log_laws::log_in_examples;
 use nx_program::{NoFiles, answer};
-use nx_watch::StampedReader;
 use std::alloc::Global;
 use std::io::{Error, ErrorKind};
 use std::process::Abort;
@@ -184,7 +183,7 @@ fn expect_end_without_arguments(
     status: u8,
     line: &str,
 ) {
-    let input = StampedReader::new(Counting::new(Source::of(b"")));
+    let input = Counting::new(Source::of(b""));
     let mut output = Counting::new(Sink::new(Vec::new(alloc)));
     let mut faults = Counting::new(Sink::new(Vec::new(alloc)));
     let arguments = Err(Error::from(kind));

@@ -10,7 +10,6 @@ use super::station::AIR_FILE_OF_EA01;
 use nx_disk::{FileFault, FileOpenFault, LeftBefore, Noted, TornFile};
 use nx_fec::Counting;
 use nx_program::{LogFiles, answer};
-use nx_watch::StampedReader;
 use std::alloc::Global;
 use std::process::Abort;
 
@@ -84,7 +83,7 @@ fn expect_run(
     let mut output = Counting::new(Sink::new(Vec::new(alloc)));
     let mut faults = Counting::new(Sink::new(Vec::new(alloc)));
     let arguments = Ok(arguments_of(rt, alloc, words));
-    let input = StampedReader::new(Counting::new(source));
+    let input = Counting::new(source);
     let ended = answer(alloc, arguments, input, &mut output, &mut faults, files);
     expect_text(rt, row, &faults.into_inner().taken, end.1.as_bytes());
     expect_text(rt, row, &output.into_inner().taken, end.2);

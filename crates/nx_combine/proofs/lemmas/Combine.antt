@@ -1,5 +1,6 @@
 -- What a call that combines a copy answers, by what becomes of the copy.
-use Rattle.std.proofs.Common.{◌≡◌, ℕ, ◌+◌, ◌-◌, Bool, true, false, if◌then◌else◌, Option, Some, None}
+use Rattle.std.proofs.Common.{◌≡◌, ℕ, ◌+◌, ◌-◌, Bool, true, false, if◌then◌else◌, Option, Some}
+use Rattle.std.proofs.Common.{None}
 use Rattle.std.proofs.Common.{List, ◌∷◌, length, take, refl, sym, ap, ap₂, ◌∙◌, arith}
 use Rattle.std.specs.Option.{option_map_or}
 use Rattle.std.proofs.Math.ListN.{set}
@@ -17,13 +18,14 @@ use Rattle.nx_copies.specs.copies.Printing.{is_better}
 use Rattle.nx_copies.specs.declared.entry.EntryHead.{EntryHead}
 use Rattle.nx_combine.specs.Combining.{IsCombined, begun_with, meant}
 use Rattle.nx_combine.specs.CopyPositions.{HeardCopy}
-use Rattle.nx_combine.specs.Families.{CombinedCopy, Family, begun_by, combined, combined_copy}
-use Rattle.nx_combine.specs.Families.{families_after, given_by}
-use Rattle.nx_combine.specs.Families.{has_family, index_joined, joined_at, joined_by}
+use Rattle.nx_combine.specs.Families.{CombinedCopy, Family, begun_by, combined}
+use Rattle.nx_combine.specs.Families.{combined_copy_holding}
+use Rattle.nx_combine.specs.Families.{families_after_holding, given_by}
+use Rattle.nx_combine.specs.Families.{has_family, index_joined_holding, joined_at, joined_by}
 use Rattle.nx_combine.specs.PositionEnds.{HasRead, ending_by}
 use Rattle.nx_combine.proofs.lemmas.Held.{begins_one, index_joined-take}
 use Rattle.nx_combine.proofs.lemmas.Held.{joined_at-take, joined_at_index, joins_one, no_family}
-use Rattle.nx_combine.proofs.lemmas.Held.{take-begun, there-take}
+use Rattle.nx_combine.proofs.lemmas.Held.{take-pushed, there-take}
 
 -- What is given in place of a copy.
 
@@ -100,22 +102,24 @@ given_chosen positions head found text read selected b gives read_is is fails =
     chosen_given positions (headed_copy head text selected) b is fails
     ∙ given_is positions head found text read selected gives read_is
 
--- The three things that may become of a copy. The families that are held are the last 200.
+-- The three things that may become of a copy. The last of the families are held, so many.
 
-pub record Answers (families held : List Family) (heard : HeardCopy) (read : List ℕ)
+pub record Answers (limit : ℕ) (families held : List Family) (heard : HeardCopy) (read : List ℕ)
     (family : Option ℕ) (begins : Bool) (given : Option EntryHead) : Type 0 where
-  pub after : held ≡ take 200 (families_after families heard)
-  pub combined : IsCombined (combined_copy families heard) (families_after families heard) read
+  pub after : held ≡ take limit (families_after_holding limit families heard)
+  pub combined : IsCombined (combined_copy_holding limit families heard)
+      (families_after_holding limit families heard) read
       (record { family = family; begins = begins; given = given })
-  pub count : length (families_after families heard) ≡ length families + begun_with begins
+  pub count : length (families_after_holding limit families heard)
+      ≡ length families + begun_with begins
 
-pub answers_none : (families held : List Family) (heard : HeardCopy) (read : List ℕ)
-    → held ≡ take 200 families → has_family heard ≡ false
-    → Answers families held heard read None false None
-answers_none families held heard read stands is =
-    let none = no_family families heard is in
+pub answers_none : (limit : ℕ) (families held : List Family) (heard : HeardCopy) (read : List ℕ)
+    → held ≡ take limit families → has_family heard ≡ false
+    → Answers limit families held heard read None false None
+answers_none limit families held heard read stands is =
+    let none = no_family limit families heard is in
     record {
-      after = stands ∙ ap (take 200) (sym none.after);
+      after = stands ∙ ap (take limit) (sym none.after);
       combined = record {
         family = ap (λ (o : CombinedCopy). o.family) none.one;
         copy = ap (λ (o : CombinedCopy). o.copy) none.one
@@ -126,19 +130,23 @@ answers_none families held heard read stands is =
       count = ap length none.after ∙ omega arith;
     }
 
-pub answers_begun : (families held new : List Family) (heard : HeardCopy) (read : List ℕ)
-    → held ≡ take 200 families → has_family heard ≡ true → index_joined held heard ≡ None
-    → new ≡ take 200 (begun_by heard ∷ held) → Answers families new heard read (Some 0) true None
-answers_begun families held new heard read stands is none begun =
-    let joins_none : index_joined families heard ≡ None =
-    sym (index_joined-take families heard) ∙ ap (λ l. index_joined l heard) (sym stands) ∙ none in
-    let begins = begins_one families heard is joins_none in
+pub answers_begun : (limit : ℕ) (families held new : List Family) (heard : HeardCopy)
+    (read : List ℕ)
+    → held ≡ take limit families → has_family heard ≡ true → index_joined_holding limit held heard
+    ≡ None
+    → new ≡ take limit (begun_by heard ∷ held)
+    → Answers limit families new heard read (Some 0) true None
+answers_begun limit families held new heard read stands is none begun =
+    let joins_none : index_joined_holding limit families heard ≡ None =
+    sym (index_joined-take limit families heard)
+    ∙ ap (λ l. index_joined_holding limit l heard) (sym stands) ∙ none in
+    let begins = begins_one limit families heard is joins_none in
     let count : length families ≡ length (begun_by heard ∷ families) - 1 - 0 = omega arith in
     record {
       after = begun
-          ∙ ap (λ l. take 200 (begun_by heard ∷ l)) stands
-          ∙ take-begun families (begun_by heard)
-          ∙ ap (take 200) (sym begins.after);
+          ∙ ap (λ l. take limit (begun_by heard ∷ l)) stands
+          ∙ take-pushed limit (begun_by heard) families
+          ∙ ap (take limit) (sym begins.after);
       combined = record {
         family = ap (λ (o : CombinedCopy). o.family) begins.one
             ∙ ap Some count
@@ -161,29 +169,31 @@ pub joined_at-length : (held : List Family) (heard : HeardCopy) (index : ℕ)
     → length (joined_at held heard index) ≡ length held
 joined_at-length held heard index = joined-length held heard index (slice_get held index)
 
-pub answers_joined : (families held new : List Family) (heard : HeardCopy) (read : List ℕ)
-    (index : ℕ) (given : Option EntryHead) → held ≡ take 200 families → has_family heard ≡ true
-    → index_joined held heard ≡ Some index → new ≡ joined_at held heard index
+pub answers_joined : (limit : ℕ) (families held new : List Family) (heard : HeardCopy)
+    (read : List ℕ)
+    (index : ℕ) (given : Option EntryHead) → held ≡ take limit families → has_family heard ≡ true
+    → index_joined_holding limit held heard ≡ Some index → new ≡ joined_at held heard index
     → ((family : Family) → slice_get held index ≡ Some family
     → (combined (joined_by heard family).positions heard.copy ≡ meant given read heard.copy)
     × IfSome given (λ head. head.errors ≡ errors_of read))
-    → Answers families new heard read (Some index) false given
-answers_joined families held new heard read index given stands is joins joined gives =
-    let joins_it : index_joined families heard ≡ Some index =
-    sym (index_joined-take families heard) ∙ ap (λ l. index_joined l heard) (sym stands) ∙ joins in
-    let at = joined_at_index families heard index joins_it in
-    let one = joins_one families heard index at.family is joins_it at.there in
+    → Answers limit families new heard read (Some index) false given
+answers_joined limit families held new heard read index given stands is joins joined gives =
+    let joins_it : index_joined_holding limit families heard ≡ Some index =
+    sym (index_joined-take limit families heard)
+    ∙ ap (λ l. index_joined_holding limit l heard) (sym stands) ∙ joins in
+    let at = joined_at_index limit families heard index joins_it in
+    let one = joins_one limit families heard index at.family is joins_it at.there in
     let here : slice_get held index ≡ Some at.family =
     ap (λ (l : List Family). slice_get l index) stands
-    ∙ there-take families index at.family at.few at.there in
+    ∙ there-take limit families index at.family at.few at.there in
     let what = gives at.family here in
     let long : length families ≡ length (set families index (joined_by heard at.family)) =
     sym (length-set families index (joined_by heard at.family)) in
     record {
       after = joined
           ∙ ap (λ l. joined_at l heard index) stands
-          ∙ joined_at-take families heard index at.family at.few at.there
-          ∙ ap (take 200) (sym one.after);
+          ∙ joined_at-take limit families heard index at.family at.few at.there
+          ∙ ap (take limit) (sym one.after);
       combined = record {
         family = ap (λ (o : CombinedCopy). o.family) one.one
             ∙ ap (λ n. Some (n - 1 - index)) long

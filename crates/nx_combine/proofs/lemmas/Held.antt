@@ -1,6 +1,8 @@
--- The last 200 families tell all that a copy needs of the families before it.
-use Rattle.std.proofs.Common.{◌≡◌, ℕ, zero, suc, ◌+◌, ◌-◌, ◌<◌, ◌≤◌, min, Bool, true, false, not, cond}
-use Rattle.std.proofs.Common.{◌&&◌, if◌then◌else◌, Option, Some, None, unwrap_or, List, [], ◌∷◌, length}
+-- The families that are held tell all that a copy needs of the families before it.
+use Rattle.std.proofs.Common.{◌≡◌, ℕ, zero, suc, ◌+◌, ◌-◌, ◌<◌, ◌≤◌, min, Bool, true, false, not}
+use Rattle.std.proofs.Common.{cond}
+use Rattle.std.proofs.Common.{◌&&◌, if◌then◌else◌, Option, Some, None, unwrap_or, List, [], ◌∷◌}
+use Rattle.std.proofs.Common.{length}
 use Rattle.std.proofs.Common.{take, nat_lt, refl, sym, ap, ap₂, ◌∙◌, subst, arith}
 use Rattle.std.proofs.Math.ListN.{set}
 use Rattle.std.proofs.Math.Seq.{take-set-lt}
@@ -13,9 +15,10 @@ use Rattle.std.specs.Option.{option_and_then, option_map, option_map_or}
 use Rattle.circular_buffer.proofs.Places.{slice_get-take}
 use Rattle.nx_envelope.specs.Identity.{same_identity}
 use Rattle.nx_combine.specs.CopyPositions.{HeardCopy}
-use Rattle.nx_combine.specs.Families.{Family, alone, begun_by, combined_copy}
-use Rattle.nx_combine.specs.Families.{families_after, has_family, index_joined, joined_at, joined_by}
-use Rattle.nx_combine.specs.Families.{joins_at, last_index, takes_in, together}
+use Rattle.nx_combine.specs.Families.{Family, alone, begun_by, combined_copy_holding}
+use Rattle.nx_combine.specs.Families.{families_after_holding, has_family, index_joined_holding}
+use Rattle.nx_combine.specs.Families.{joined_at, joined_by}
+use Rattle.nx_combine.specs.Families.{joins_at_holding, last_index, takes_in, together}
 
 -- The first index at which a test passes, of the first elements of a list.
 
@@ -59,8 +62,9 @@ position-take p n xs =
     ∙ position_at (position_or_len p xs) (length xs) n (nat_lt (position_or_len p xs) n) refl
 
 -- the index, if the family there takes the copy in
-abbrev pub if_joins : List Family → HeardCopy → ℕ → Option ℕ
-if_joins families heard index = if joins_at families heard index then Some index else None
+abbrev pub if_joins : (limit : ℕ) → List Family → HeardCopy → ℕ → Option ℕ
+if_joins limit families heard index = if joins_at_holding limit families heard index then Some index
+    else None
 
 none_at : {A B : Type 0} (f : A → Option B) (b : Bool) (a : A) → f a ≡ None
     → option_and_then f (cond b (Some a) None) ≡ None
@@ -72,57 +76,62 @@ same_at : {A B : Type 0} (f g : A → Option B) (b : Bool) (a : A) → f a ≡ g
 same_at f g true a is = is
 same_at f g false a is = refl
 
-join_below : (families : List Family) (heard : HeardCopy) (index : ℕ) → index < 200
-    → if_joins (take 200 families) heard index ≡ if_joins families heard index
-join_below families heard index below =
-    ap (λ o. if nat_lt index 200
+join_below : (limit : ℕ) (families : List Family) (heard : HeardCopy) (index : ℕ) → index < limit
+    → if_joins limit (take limit families) heard index ≡ if_joins limit families heard index
+join_below limit families heard index below =
+    ap (λ o. if nat_lt index limit
     && unwrap_or (option_map (λ (family : Family). takes_in family heard) o) false
-    then Some index else None) (slice_get-take 200 families index below)
+    then Some index else None) (slice_get-take limit families index below)
 
-join_past : (families : List Family) (heard : HeardCopy) (index : ℕ) → 200 ≤ index
-    → if_joins families heard index ≡ None
-join_past families heard index past = rw (le-ltb index 200 past) refl
+pub join_past : (limit : ℕ) (families : List Family) (heard : HeardCopy) (index : ℕ) → limit ≤ index
+    → if_joins limit families heard index ≡ None
+join_past limit families heard index past = rw (le-ltb index limit past) refl
 
-joined_by_place : (families : List Family) (heard : HeardCopy) (a : ℕ) (b there : Bool)
-    → nat_lt a 200 ≡ b
-    → option_and_then (if_joins (take 200 families) heard) (cond b (cond there (Some a) None) None)
-    ≡ option_and_then (if_joins families heard) (cond there (Some a) None)
-joined_by_place families heard a true there is =
-    same_at (if_joins (take 200 families) heard) (if_joins families heard) there a
-    (join_below families heard a (ltb-true a 200 is))
-joined_by_place families heard a false there is =
-    sym (none_at (if_joins families heard) there a
-    (join_past families heard a (ltb-false a 200 is)))
+joined_by_place : (limit : ℕ) (families : List Family) (heard : HeardCopy) (a : ℕ) (b there : Bool)
+    → nat_lt a limit ≡ b
+    → option_and_then (if_joins limit (take limit families) heard)
+    (cond b (cond there (Some a) None) None)
+    ≡ option_and_then (if_joins limit families heard) (cond there (Some a) None)
+joined_by_place limit families heard a true there is =
+    same_at (if_joins limit (take limit families) heard) (if_joins limit families heard) there a
+    (join_below limit families heard a (ltb-true a limit is))
+joined_by_place limit families heard a false there is =
+    sym (none_at (if_joins limit families heard) there a
+    (join_past limit families heard a (ltb-false a limit is)))
 
 -- a copy joins the same family, whether all are looked at or the last 200
-pub index_joined-take : (families : List Family) (heard : HeardCopy)
-    → index_joined (take 200 families) heard ≡ index_joined families heard
-unfolding index_joined
-index_joined-take families heard =
-    let p : Family → Bool = λ (family : Family). same_identity family.identity heard.copy.identity in
-    ap (option_and_then (if_joins (take 200 families) heard)) (position-take p 200 families)
-    ∙ joined_by_place families heard (position_or_len p families)
-    (nat_lt (position_or_len p families) 200)
+pub index_joined-take : (limit : ℕ) (families : List Family) (heard : HeardCopy)
+    → index_joined_holding limit (take limit families) heard
+    ≡ index_joined_holding limit families heard
+unfolding index_joined_holding
+index_joined-take limit families heard =
+    let p : Family → Bool = λ (family : Family). same_identity family.identity heard.copy.identity
+    in
+    ap (option_and_then (if_joins limit (take limit families) heard))
+    (position-take p limit families)
+    ∙ joined_by_place limit families heard (position_or_len p families)
+    (nat_lt (position_or_len p families) limit)
     (nat_lt (position_or_len p families) (length families)) refl
 
 -- What the index says.
 
 -- the copy joins the family that stands at the index, which is below 200
-pub record IsJoinedAt (families : List Family) (heard : HeardCopy) (index : ℕ) : Type 0 where
-  pub few : index < 200
+pub record IsJoinedAt (limit : ℕ) (families : List Family) (heard : HeardCopy)
+    (index : ℕ) : Type 0 where
+  pub few : index < limit
   pub family : Family
   pub there : slice_get families index ≡ Some family
 
-stands_at : (families : List Family) (heard : HeardCopy) (index : ℕ) (few : Bool)
+stands_at : (limit : ℕ) (families : List Family) (heard : HeardCopy) (index : ℕ) (few : Bool)
     (o : Option Family)
-    → nat_lt index 200 ≡ few → slice_get families index ≡ o
+    → nat_lt index limit ≡ few → slice_get families index ≡ o
     → (few && unwrap_or (option_map (λ (family : Family). takes_in family heard) o) false) ≡ true
-    → IsJoinedAt families heard index
-stands_at families heard index true (Some family) below is passes =
-    record { few = ltb-true index 200 below; family = family; there = is }
-stands_at families heard index true None below is passes =
+    → IsJoinedAt limit families heard index
+stands_at limit families heard index true (Some family) below is passes =
+    record { few = ltb-true index limit below; family = family; there = is }
+stands_at limit families heard index true None below is passes =
     absurd (let contra : false ≡ true = passes in cc)
-stands_at families heard index false o below is passes =
+stands_at limit families heard index false o below is passes =
     absurd (let contra : false ≡ true = passes in cc)
 
 pub from_if : (b : Bool) (k index : ℕ) → (if b then Some k else None) ≡ Some index
@@ -130,114 +139,129 @@ pub from_if : (b : Bool) (k index : ℕ) → (if b then Some k else None) ≡ So
 from_if true k index is = (refl, (let inside : Some k ≡ Some index = is in cc))
 from_if false k index is = absurd (let contra : None ≡ Some index = is in cc)
 
-from_last : (families : List Family) (heard : HeardCopy) (o : Option ℕ) (index : ℕ)
-    → option_and_then (if_joins families heard) o ≡ Some index → IsJoinedAt families heard index
-from_last families heard None index is = absurd (let contra : None ≡ Some index = is in cc)
-from_last families heard (Some k) index is =
-    let parts = from_if (joins_at families heard k) k index is in
-    subst (IsJoinedAt families heard) parts.1
-    (stands_at families heard k (nat_lt k 200) (slice_get families k) refl refl parts.0)
+from_last : (limit : ℕ) (families : List Family) (heard : HeardCopy) (o : Option ℕ) (index : ℕ)
+    → option_and_then (if_joins limit families heard) o ≡ Some index
+    → IsJoinedAt limit families heard index
+from_last limit families heard None index is = absurd (let contra : None ≡ Some index = is in cc)
+from_last limit families heard (Some k) index is =
+    let parts = from_if (joins_at_holding limit families heard k) k index is in
+    subst (IsJoinedAt limit families heard) parts.1
+    (stands_at limit families heard k (nat_lt k limit) (slice_get families k) refl refl parts.0)
 
-pub joined_at_index : (families : List Family) (heard : HeardCopy) (index : ℕ)
-    → index_joined families heard ≡ Some index → IsJoinedAt families heard index
-unfolding index_joined
-joined_at_index families heard index is =
-    from_last families heard (last_index heard.copy.identity families) index is
+pub joined_at_index : (limit : ℕ) (families : List Family) (heard : HeardCopy) (index : ℕ)
+    → index_joined_holding limit families heard ≡ Some index → IsJoinedAt limit families heard index
+unfolding index_joined_holding
+joined_at_index limit families heard index is =
+    from_last limit families heard (last_index heard.copy.identity families) index is
 
 -- what the search for it answers
-pub index_joined-none : (families : List Family) (heard : HeardCopy)
-    → last_index heard.copy.identity families ≡ None → index_joined families heard ≡ None
-unfolding index_joined
-index_joined-none families heard is = ap (option_and_then (if_joins families heard)) is
+pub index_joined-none : (limit : ℕ) (families : List Family) (heard : HeardCopy)
+    → last_index heard.copy.identity families ≡ None → index_joined_holding limit families heard
+    ≡ None
+unfolding index_joined_holding
+index_joined-none limit families heard is = ap (option_and_then (if_joins limit families heard)) is
 
 and_false : (b : Bool) → (b && false) ≡ false
 and_false true = refl
 and_false false = refl
 
-pub index_joined-gone : (families : List Family) (heard : HeardCopy) (index : ℕ)
+pub index_joined-gone : (limit : ℕ) (families : List Family) (heard : HeardCopy) (index : ℕ)
     → last_index heard.copy.identity families ≡ Some index → slice_get families index ≡ None
-    → index_joined families heard ≡ None
-unfolding index_joined
-index_joined-gone families heard index is gone =
-    ap (option_and_then (if_joins families heard)) is
-    ∙ ap (λ o. if nat_lt index 200
+    → index_joined_holding limit families heard ≡ None
+unfolding index_joined_holding
+index_joined-gone limit families heard index is gone =
+    ap (option_and_then (if_joins limit families heard)) is
+    ∙ ap (λ o. if nat_lt index limit
     && unwrap_or (option_map (λ (family : Family). takes_in family heard) o) false
     then Some index else None) gone
-    ∙ ap (λ b. if b then Some index else None) (and_false (nat_lt index 200))
+    ∙ ap (λ b. if b then Some index else None) (and_false (nat_lt index limit))
 
-pub index_joined-at : (families : List Family) (heard : HeardCopy) (index : ℕ) (family : Family)
+pub index_joined-at : (limit : ℕ) (families : List Family) (heard : HeardCopy) (index : ℕ)
+    (family : Family)
     (b : Bool) → last_index heard.copy.identity families ≡ Some index
-    → slice_get families index ≡ Some family → index < 200 → b ≡ takes_in family heard
-    → index_joined families heard ≡ (if b then Some index else None)
-unfolding index_joined
-index_joined-at families heard index family b is there few takes =
-    ap (option_and_then (if_joins families heard)) is
-    ∙ ap (λ o. if nat_lt index 200
+    → slice_get families index ≡ Some family → index < limit → b ≡ takes_in family heard
+    → index_joined_holding limit families heard ≡ (if b then Some index else None)
+unfolding index_joined_holding
+index_joined-at limit families heard index family b is there few takes =
+    ap (option_and_then (if_joins limit families heard)) is
+    ∙ ap (λ o. if nat_lt index limit
     && unwrap_or (option_map (λ (family : Family). takes_in family heard) o) false
     then Some index else None) there
-    ∙ ap (λ c. if c && takes_in family heard then Some index else None) (lt-ltb index 200 few)
+    ∙ ap (λ c. if c && takes_in family heard then Some index else None) (lt-ltb index limit few)
     ∙ ap (λ c. if c then Some index else None) (sym takes)
 
-pub index_joined-by : (families : List Family) (heard : HeardCopy) (index : ℕ) (family : Family)
+pub index_joined-by : (limit : ℕ) (families : List Family) (heard : HeardCopy) (index : ℕ)
+    (family : Family)
     (b : Bool) → last_index heard.copy.identity families ≡ Some index
-    → slice_get families index ≡ Some family → length families ≤ 200 → b ≡ takes_in family heard
-    → index_joined families heard ≡ (if b then Some index else None)
-index_joined-by families heard index family b is there few takes =
+    → slice_get families index ≡ Some family → length families ≤ limit → b ≡ takes_in family heard
+    → index_joined_holding limit families heard ≡ (if b then Some index else None)
+index_joined-by limit families heard index family b is there few takes =
     let within = slice_get_within families index family there in
-    index_joined-at families heard index family b is there (omega arith) takes
+    index_joined-at limit families heard index family b is there (omega arith) takes
 
 -- The families and the combined copy, by what becomes of the copy.
 
-pub record HasNone (families : List Family) (heard : HeardCopy) : Type 0 where
-  pub after : families_after families heard ≡ families
-  pub one : combined_copy families heard ≡ alone None heard
+pub record HasNone (limit : ℕ) (families : List Family) (heard : HeardCopy) : Type 0 where
+  pub after : families_after_holding limit families heard ≡ families
+  pub one : combined_copy_holding limit families heard ≡ alone None heard
 
-pub no_family : (families : List Family) (heard : HeardCopy) → has_family heard ≡ false
-    → HasNone families heard
-unfolding families_after combined_copy
-no_family families heard is = record { after = rw is refl; one = rw is refl }
+pub no_family : (limit : ℕ) (families : List Family) (heard : HeardCopy) → has_family heard ≡ false
+    → HasNone limit families heard
+unfolding families_after_holding combined_copy_holding
+no_family limit families heard is = record { after = rw is refl; one = rw is refl }
 
-pub record Begins (families : List Family) (heard : HeardCopy) : Type 0 where
-  pub after : families_after families heard ≡ begun_by heard ∷ families
-  pub one : combined_copy families heard ≡ alone (Some (length families)) heard
+pub record Begins (limit : ℕ) (families : List Family) (heard : HeardCopy) : Type 0 where
+  pub after : families_after_holding limit families heard ≡ begun_by heard ∷ families
+  pub one : combined_copy_holding limit families heard ≡ alone (Some (length families)) heard
 
-pub begins_one : (families : List Family) (heard : HeardCopy) → has_family heard ≡ true
-    → index_joined families heard ≡ None → Begins families heard
-unfolding families_after combined_copy
-begins_one families heard is none = record { after = rw (is, none) refl; one = rw (is, none) refl }
+pub begins_one : (limit : ℕ) (families : List Family) (heard : HeardCopy) → has_family heard ≡ true
+    → index_joined_holding limit families heard ≡ None → Begins limit families heard
+unfolding families_after_holding combined_copy_holding
+begins_one limit families heard is none = record {
+  after = rw (is, none) refl;
+  one =
+      rw (is, none) refl;
+}
 
-pub record Joins (families : List Family) (heard : HeardCopy) (index : ℕ) (family : Family)
+pub record Joins (limit : ℕ) (families : List Family) (heard : HeardCopy) (index : ℕ)
+    (family : Family)
     : Type 0 where
-  pub after : families_after families heard ≡ set families index (joined_by heard family)
-  pub one : combined_copy families heard
+  pub after : families_after_holding limit families heard
+      ≡ set families index (joined_by heard family)
+  pub one : combined_copy_holding limit families heard
       ≡ together (length families - 1 - index) (joined_by heard family).positions heard
 
-pub joins_one : (families : List Family) (heard : HeardCopy) (index : ℕ) (family : Family)
-    → has_family heard ≡ true → index_joined families heard ≡ Some index
-    → slice_get families index ≡ Some family → Joins families heard index family
-unfolding families_after combined_copy
-joins_one families heard index family is joins there =
+pub joins_one : (limit : ℕ) (families : List Family) (heard : HeardCopy) (index : ℕ)
+    (family : Family)
+    → has_family heard ≡ true → index_joined_holding limit families heard ≡ Some index
+    → slice_get families index ≡ Some family → Joins limit families heard index family
+unfolding families_after_holding combined_copy_holding
+joins_one limit families heard index family is joins there =
     record { after = rw (is, joins, there) refl; one = rw (is, joins, there) refl }
 
 -- of the last 200 the family stands at the same index
-pub there-take : (families : List Family) (index : ℕ) (family : Family) → index < 200
-    → slice_get families index ≡ Some family → slice_get (take 200 families) index ≡ Some family
-there-take families index family few there = slice_get-take 200 families index few ∙ there
+pub there-take : (limit : ℕ) (families : List Family) (index : ℕ) (family : Family) → index < limit
+    → slice_get families index ≡ Some family → slice_get (take limit families) index ≡ Some family
+there-take limit families index family few there = slice_get-take limit families index few ∙ there
 
-pub joined_at-take : (families : List Family) (heard : HeardCopy) (index : ℕ) (family : Family)
-    → index < 200 → slice_get families index ≡ Some family
-    → joined_at (take 200 families) heard index
-    ≡ take 200 (set families index (joined_by heard family))
-joined_at-take families heard index family few there =
-    ap (λ o. option_map_or (λ (family : Family). set (take 200 families) index
-    (joined_by heard family)) o (take 200 families)) (there-take families index family few there)
-    ∙ sym (take-set-lt 200 families index (joined_by heard family) few)
+pub joined_at-take : (limit : ℕ) (families : List Family) (heard : HeardCopy) (index : ℕ)
+    (family : Family)
+    → index < limit → slice_get families index ≡ Some family
+    → joined_at (take limit families) heard index
+    ≡ take limit (set families index (joined_by heard family))
+joined_at-take limit families heard index family few there =
+    ap (λ o. option_map_or (λ (family : Family). set (take limit families) index
+    (joined_by heard family)) o (take limit families))
+    (there-take limit families index family few there)
+    ∙ sym (take-set-lt limit families index (joined_by heard family) few)
 
-take-take : (n : ℕ) (xs : List Family) → take n (take (suc n) xs) ≡ take n xs
+take-take : {X : Type 0} (n : ℕ) (xs : List X) → take n (take (suc n) xs) ≡ take n xs
 take-take zero xs = refl
 take-take (suc n) [] = refl
 take-take (suc n) (x ∷ xs) = ap (λ l. x ∷ l) (take-take n xs)
 
-pub take-begun : (families : List Family) (family : Family)
-    → take 200 (family ∷ take 200 families) ≡ take 200 (family ∷ families)
-take-begun families family = ap (λ l. family ∷ l) (take-take 199 families)
+-- what is pushed before the first elements stands before all
+pub take-pushed : {X : Type 0} (n : ℕ) (x : X) (xs : List X)
+    → take n (x ∷ take n xs) ≡ take n (x ∷ xs)
+take-pushed zero x xs = refl
+take-pushed (suc n) x xs = ap (λ l. x ∷ l) (take-take n xs)

@@ -11,8 +11,10 @@ use Rattle.std.specs.Option.{option_map_or}
 use Rattle.nx_code.specs.Reading.{Reception, combination, idle, lost}
 use Rattle.nx_combine.specs.CombinedPrinting.{are_of_one_family}
 use Rattle.nx_combine.specs.CopyPositions.{HeardCopy}
-use Rattle.nx_combine.specs.Families.{CombinedCopy, Family, alone, begun_by, combined_at, combined_copies}
-use Rattle.nx_combine.specs.Families.{combined_copy, families_after, has_family, index_joined, joined_at}
+use Rattle.nx_combine.specs.Families.{CombinedCopy, Family, alone, begun_by, combined_at}
+use Rattle.nx_combine.specs.Families.{combined_copies_holding}
+use Rattle.nx_combine.specs.Families.{combined_copy_holding, families_after_holding, has_family}
+use Rattle.nx_combine.specs.Families.{index_joined_holding, joined_at}
 use Rattle.nx_combine.specs.Families.{joined_by, together}
 use Rattle.nx_combine.specs.Joining.{joined, joined_position}
 use Rattle.nx_combine.specs.Laws.{InventNothing, WasTaken, joined_where}
@@ -243,22 +245,26 @@ step_by families before heard None taken = begun_step families before heard take
 step_by families before heard (Some index) taken =
     step_at families before heard index (slice_get families index) refl taken
 
-step_if : (families : List Family) (before : List CombinedCopy) (heard : HeardCopy) (b : Bool)
+step_if : (limit : ℕ) (families : List Family) (before : List CombinedCopy) (heard : HeardCopy)
+    (b : Bool)
     → FamiliesTaken families before
     → StepTaken families before
-    (if b then option_map_or (combined_at families heard) (index_joined families heard)
+    (if b then option_map_or (combined_at families heard)
+    (index_joined_holding limit families heard)
     (alone (Some (length families)) heard) else alone None heard)
-    (if b then option_map_or (joined_at families heard) (index_joined families heard)
+    (if b then option_map_or (joined_at families heard) (index_joined_holding limit families heard)
     (begun_by heard ∷ families) else families)
-step_if families before heard true taken =
-    step_by families before heard (index_joined families heard) taken
-step_if families before heard false taken = alone_step families before heard taken
+step_if limit families before heard true taken =
+    step_by families before heard (index_joined_holding limit families heard) taken
+step_if limit families before heard false taken = alone_step families before heard taken
 
-step : (families : List Family) (before : List CombinedCopy) (heard : HeardCopy)
+step : (limit : ℕ) (families : List Family) (before : List CombinedCopy) (heard : HeardCopy)
     → FamiliesTaken families before
-    → StepTaken families before (combined_copy families heard) (families_after families heard)
-unfolding combined_copy families_after
-step families before heard taken = step_if families before heard (has_family heard) taken
+    → StepTaken families before (combined_copy_holding limit families heard)
+    (families_after_holding limit families heard)
+unfolding combined_copy_holding families_after_holding
+step limit families before heard taken = step_if limit families before heard
+    (has_family heard) taken
 
 -- behind these combined copies, the next ones invent nothing
 abbrev InventNothingBehind : List CombinedCopy → List CombinedCopy → Type 0
@@ -280,7 +286,8 @@ one_behind : (before tail : List CombinedCopy) (c : CombinedCopy)
 one_behind before tail c own rest [] later one is index number has =
     let whole : c ∷ tail ≡ one ∷ later = is in
     let same : c ≡ one = cc in
-    let was = own index number (ap (λ (o : CombinedCopy). slice_get o.positions index) same ∙ has) in
+    let was = own index number (ap (λ (o : CombinedCopy). slice_get o.positions index) same
+    ∙ has) in
     subst (λ o. WasTaken (before ++ []) o index number) same
     (subst (λ l. WasTaken l c index number) (sym (append-nil before)) was)
 one_behind before tail c own rest (x ∷ front) later one is index number has =
@@ -291,34 +298,40 @@ one_behind before tail c own rest (x ∷ front) later one is index number has =
     subst (λ l. WasTaken l one index number)
     (append_assoc before (c ∷ []) front ∙ ap (λ y. before ++ y ∷ front) same) was
 
-selected_step : (families : List Family) (before tail : List CombinedCopy) (heard : HeardCopy)
+selected_step : (limit : ℕ) (families : List Family) (before tail : List CombinedCopy)
+    (heard : HeardCopy)
     (b : Bool) → heard.copy.selected ≡ b → FamiliesTaken families before
-    → ((before : List CombinedCopy) → FamiliesTaken (families_after families heard) before
+    → ((before : List CombinedCopy) → FamiliesTaken
+    (families_after_holding limit families heard) before
     → InventNothingBehind before tail)
-    → InventNothingBehind before ((if b then combined_copy families heard ∷ [] else []) ++ tail)
-unfolding families_after
-selected_step families before tail heard true is taken rest =
-    let next = step families before heard taken in
-    one_behind before tail (combined_copy families heard) next.own
-    (rest (before ++ combined_copy families heard ∷ []) next.held)
-selected_step families before tail heard false is taken rest =
+    → InventNothingBehind before ((if b then combined_copy_holding limit families heard ∷ []
+    else []) ++ tail)
+unfolding families_after_holding
+selected_step limit families before tail heard true is taken rest =
+    let next = step limit families before heard taken in
+    one_behind before tail (combined_copy_holding limit families heard) next.own
+    (rest (before ++ combined_copy_holding limit families heard ∷ []) next.held)
+selected_step limit families before tail heard false is taken rest =
     let none : has_family heard ≡ false = rw is refl in
-    let same : families_after families heard ≡ families = rw none refl in
+    let same : families_after_holding limit families heard ≡ families = rw none refl in
     rest before (subst (λ l. FamiliesTaken l before) (sym same) taken)
 
-all_behind : (families : List Family) (before : List CombinedCopy) (copies : List HeardCopy)
+all_behind : (limit : ℕ) (families : List Family) (before : List CombinedCopy)
+    (copies : List HeardCopy)
     → FamiliesTaken families before
-    → InventNothingBehind before (combined_copies families copies)
-unfolding combined_copies
-all_behind families before [] taken = none_behind before
-all_behind families before (heard ∷ later) taken =
-    selected_step families before (combined_copies (families_after families heard) later) heard
+    → InventNothingBehind before (combined_copies_holding limit families copies)
+unfolding combined_copies_holding
+all_behind limit families before [] taken = none_behind before
+all_behind limit families before (heard ∷ later) taken =
+    selected_step limit families before (combined_copies_holding limit
+    (families_after_holding limit families heard) later) heard
     heard.copy.selected refl taken
-    (λ now held. all_behind (families_after families heard) now later held)
+    (λ now held. all_behind limit (families_after_holding limit families heard) now later held)
 
 none_taken : FamiliesTaken [] []
 none_taken k family is index number has = absurd (let contra : None ≡ Some family = is in cc)
 
-pub nothing_invented : (copies : List HeardCopy) → InventNothing (combined_copies [] copies)
-nothing_invented copies = λ before later one is index number has.
-    all_behind [] [] copies none_taken before later one is index number has
+pub nothing_invented : (limit : ℕ) (copies : List HeardCopy)
+    → InventNothing (combined_copies_holding limit [] copies)
+nothing_invented limit copies = λ before later one is index number has.
+    all_behind limit [] [] copies none_taken before later one is index number has

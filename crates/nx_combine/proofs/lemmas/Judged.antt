@@ -1,9 +1,10 @@
 -- How a combiner stands, and what it says of the copies that were printed.
-use Rattle.std.proofs.Common.{◌≡◌, ℕ, zero, suc, ◌+◌, ◌-◌, ◌<◌, ◌≤◌, min, Bool, true, false, not, cond}
+use Rattle.std.proofs.Common.{◌≡◌, ℕ, zero, suc, ◌+◌, ◌-◌, ◌<◌, ◌≤◌, min, Bool, true, false, not}
+use Rattle.std.proofs.Common.{cond}
 use Rattle.std.proofs.Common.{◌&&◌, ◌||◌, if◌then◌else◌, Option, Some, None, List, [], ◌∷◌}
 use Rattle.std.proofs.Common.{length, take, refl, sym, ap, ap₂, ◌∙◌, subst, arith}
 use Rattle.std.proofs.Math.ListN.{set}
-use Rattle.std.proofs.Math.Seq.{take-set-lt}
+use Rattle.std.proofs.Math.Seq.{take-nil, take-set-lt}
 use Rattle.std.proofs.lemmas.Bool.{eq-eqb, leb-false, leb-true, lt-leb, ne_eqb}
 use Rattle.std.proofs.lemmas.List.{length-take}
 use Rattle.std.specs.Prelude.{slice_get, is_some, IfSome, ◌==◌, nat_le}
@@ -19,16 +20,19 @@ use Rattle.nx_memory.specs.declared.memories.entry.MemoryEntry.{MemoryEntry}
 use Rattle.nx_copies.specs.copies.FoundCopies.{TaggedCopy, headed_copy}
 use Rattle.nx_copies.specs.copies.Printing.{entry_of, is_better, is_good, is_printed}
 use Rattle.nx_copies.specs.declared.entry.EntryHead.{EntryHead}
-use Rattle.nx_combine.specs.CombinedPrinting.{are_of_one_family, entry_made_combined, if_printed_combined}
-use Rattle.nx_combine.specs.CombinedPrinting.{is_better_than_before, is_entered_combined, is_printed_combined}
+use Rattle.nx_combine.specs.CombinedPrinting.{are_of_one_family, entry_made_combined}
+use Rattle.nx_combine.specs.CombinedPrinting.{if_printed_combined}
+use Rattle.nx_combine.specs.CombinedPrinting.{is_better_than_before, is_entered_combined}
+use Rattle.nx_combine.specs.CombinedPrinting.{is_printed_combined}
 use Rattle.nx_combine.specs.Combining.{IsCombined, heard_of, meant}
 use Rattle.nx_combine.specs.CopyPositions.{HeardCopy}
 use Rattle.nx_combine.specs.declared.combining.Combined.{Combined}
-use Rattle.nx_combine.specs.Families.{CombinedCopy, Family, alone, combined_at, combined_copy}
-use Rattle.nx_combine.specs.Families.{families_after, has_family, index_joined}
-use Rattle.nx_combine.specs.Judging.{ComesTo, IsGivenAs, IsOfBegun, StandsCombined, all_last_printed}
+use Rattle.nx_combine.specs.Families.{CombinedCopy, Family, alone, combined_at}
+use Rattle.nx_combine.specs.Families.{combined_copy_holding}
+use Rattle.nx_combine.specs.Families.{families_after_holding, has_family, index_joined_holding}
+use Rattle.nx_combine.specs.Judging.{ComesTo, IsGivenAs, IsOfBegun, StandsHolding, all_last_printed}
 use Rattle.nx_combine.specs.Judging.{head_of, is_of_number, last_printed}
-use Rattle.nx_combine.proofs.lemmas.Held.{no_family}
+use Rattle.nx_combine.proofs.lemmas.Held.{no_family, take-pushed}
 use Rattle.nx_combine.proofs.lemmas.Sendings.{and_false}
 
 -- The copies of a family among those that were printed.
@@ -98,11 +102,6 @@ still_begun (one ∷ before) count more begun few = (
 
 -- The families that are held, and of each what was printed last.
 
-take-take : {X : Type 0} (n : ℕ) (xs : List X) → take n (take (suc n) xs) ≡ take n xs
-take-take zero xs = refl
-take-take (suc n) [] = refl
-take-take (suc n) (x ∷ xs) = ap (λ l. x ∷ l) (take-take n xs)
-
 all_last-begun : (before : List CombinedCopy) (count : ℕ)
     → AllByRecursion (IsOfBegun count) before
     → all_last_printed before (suc count) ≡ None ∷ all_last_printed before count
@@ -111,36 +110,37 @@ all_last-begun before count begun =
     ap (λ o. o ∷ all_last_printed before count) (last_past before count count begun (omega arith))
 
 -- a family that is begun stands first, and nothing of it was printed
-pub stands_begun : (families more held new : List Family)
+pub stands_begun : (limit : ℕ) (families more held new : List Family)
     (before : List CombinedCopy) (printed now : List (Option EntryHead)) (was is : FinderView)
-    → StandsCombined (record { families = held; printed = printed; finder = was }) families before
-    → new ≡ take 200 more → length more ≡ length families + 1 → now ≡ take 200 (None ∷ printed)
-    → StandsCombined (record { families = new; printed = now; finder = is }) more before
-stands_begun families more held new before printed now was is stands held_is count now_is =
+    → StandsHolding limit (record { families = held; printed = printed; finder = was }) families
+    before
+    → new ≡ take limit more → length more ≡ length families + 1 → now ≡ take limit (None ∷ printed)
+    → StandsHolding limit (record { families = new; printed = now; finder = is }) more before
+stands_begun limit families more held new before printed now was is stands held_is count now_is =
     let n = length families in
     let long : suc n ≡ length more = omega arith in
     record {
       held = held_is;
       printed = now_is
-          ∙ ap (λ (l : List (Option EntryHead)). take 200 (None ∷ l)) stands.printed
-          ∙ ap (λ (l : List (Option EntryHead)). None ∷ l) (take-take 199 (all_last_printed
-          before n))
-          ∙ ap (take 200) (sym (all_last-begun before n stands.begun))
-          ∙ ap (λ m. take 200 (all_last_printed before m)) long;
+          ∙ ap (λ (l : List (Option EntryHead)). take limit (None ∷ l)) stands.printed
+          ∙ take-pushed limit None (all_last_printed before n)
+          ∙ ap (take limit) (sym (all_last-begun before n stands.begun))
+          ∙ ap (λ m. take limit (all_last_printed before m)) long;
       begun = still_begun before n (length more) stands.begun (omega arith);
     }
 
 -- else all stands as it stood
-pub stands_kept : (families more held new : List Family)
+pub stands_kept : (limit : ℕ) (families more held new : List Family)
     (before : List CombinedCopy) (printed : List (Option EntryHead)) (was is : FinderView)
-    → StandsCombined (record { families = held; printed = printed; finder = was }) families before
-    → new ≡ take 200 more → length more ≡ length families + 0
-    → StandsCombined (record { families = new; printed = printed; finder = is }) more before
-stands_kept families more held new before printed was is stands held_is count =
+    → StandsHolding limit (record { families = held; printed = printed; finder = was }) families
+    before
+    → new ≡ take limit more → length more ≡ length families + 0
+    → StandsHolding limit (record { families = new; printed = printed; finder = is }) more before
+stands_kept limit families more held new before printed was is stands held_is count =
     let long : length families ≡ length more = omega arith in
     record {
       held = held_is;
-      printed = stands.printed ∙ ap (λ m. take 200 (all_last_printed before m)) long;
+      printed = stands.printed ∙ ap (λ m. take limit (all_last_printed before m)) long;
       begun = still_begun before (length families) (length more) stands.begun (omega arith);
     }
 
@@ -156,17 +156,17 @@ all_last-at before (suc n) (suc index) below =
     (let this : n - 1 - index ≡ suc n - 1 - suc index = omega arith in this)
 
 -- what stands at the index of a family that is held
-pub last_at : (families held : List Family) (before : List CombinedCopy)
+pub last_at : (limit : ℕ) (families held : List Family) (before : List CombinedCopy)
     (printed : List (Option EntryHead)) (finder : FinderView) (index : ℕ)
-    → StandsCombined (record { families = held; printed = printed; finder = finder }) families
+    → StandsHolding limit (record { families = held; printed = printed; finder = finder }) families
     before
     → index < length held
     → slice_get printed index ≡ Some (last_printed before (length families - 1 - index))
-last_at families held before printed finder index stands below =
-    let long : length held ≡ min 200 (length families) =
-    ap length stands.held ∙ length-take 200 families in
+last_at limit families held before printed finder index stands below =
+    let long : length held ≡ min limit (length families) =
+    ap length stands.held ∙ length-take limit families in
     ap (λ (l : List (Option EntryHead)). slice_get l index) stands.printed
-    ∙ slice_get-take 200 (all_last_printed before (length families)) index (omega arith)
+    ∙ slice_get-take limit (all_last_printed before (length families)) index (omega arith)
     ∙ all_last-at before (length families) index (omega arith)
 
 -- Whether it is better than the last one.
@@ -267,24 +267,25 @@ all_last-noted before one (suc n) (suc index) below is =
     (last-other before one n (is_not one (n - 1 - index) n this (λ same. omega arith)))
     (all_last-noted before one n index (omega arith) this)
 
-pub stands_noted : (families held : List Family) (before : List CombinedCopy)
+pub stands_noted : (limit : ℕ) (families held : List Family) (before : List CombinedCopy)
     (one : CombinedCopy) (printed now : List (Option EntryHead)) (was is : FinderView) (index : ℕ)
-    → StandsCombined (record { families = held; printed = printed; finder = was }) families before
+    → StandsHolding limit (record { families = held; printed = printed; finder = was }) families
+    before
     → index < length held → one.family ≡ Some (length families - 1 - index)
     → now ≡ set printed index (Some (head_of one.copy))
-    → StandsCombined (record { families = held; printed = now; finder = is }) families
+    → StandsHolding limit (record { families = held; printed = now; finder = is }) families
     (one ∷ before)
-stands_noted families held before one printed now was is index stands below of noted =
+stands_noted limit families held before one printed now was is index stands below of noted =
     let n = length families in
-    let long : length held ≡ min 200 n = ap length stands.held ∙ length-take 200 families in
+    let long : length held ≡ min limit n = ap length stands.held ∙ length-take limit families in
     record {
       held = stands.held;
       printed = noted
           ∙ ap (λ (l : List (Option EntryHead)). set l index (Some (head_of one.copy)))
           stands.printed
-          ∙ sym (take-set-lt 200 (all_last_printed before n) index (Some (head_of one.copy))
+          ∙ sym (take-set-lt limit (all_last_printed before n) index (Some (head_of one.copy))
           (omega arith))
-          ∙ ap (take 200) (sym (all_last-noted before one n index (omega arith) of));
+          ∙ ap (take limit) (sym (all_last-noted before one n index (omega arith) of));
       begun = (
         λ number has.
             let same : Some number ≡ Some (n - 1 - index) = sym has ∙ of in
@@ -294,16 +295,17 @@ stands_noted families held before one printed now was is index stands below of n
       );
     }
 
-pub stands_unnoted : (families held : List Family) (before : List CombinedCopy)
+pub stands_unnoted : (limit : ℕ) (families held : List Family) (before : List CombinedCopy)
     (one : CombinedCopy) (printed : List (Option EntryHead)) (was is : FinderView)
-    → StandsCombined (record { families = held; printed = printed; finder = was }) families before
+    → StandsHolding limit (record { families = held; printed = printed; finder = was }) families
+    before
     → one.family ≡ None
-    → StandsCombined (record { families = held; printed = printed; finder = is }) families
+    → StandsHolding limit (record { families = held; printed = printed; finder = is }) families
     (one ∷ before)
-stands_unnoted families held before one printed was is stands none = record {
+stands_unnoted limit families held before one printed was is stands none = record {
   held = stands.held;
   printed = stands.printed
-      ∙ ap (take 200) (sym (all_last-same before one (length families)
+      ∙ ap (take limit) (sym (all_last-same before one (length families)
       (λ number below. rw none refl)));
   begun = (
     λ number has. absurd (let contra : None ≡ Some number = sym none ∙ has in cc),
@@ -314,10 +316,13 @@ stands_unnoted families held before one printed was is stands none = record {
 -- A copy whose positions are too many, and of which so many are given that it shows.
 
 -- the two copies leave the same, and come to the same
-pub record LeaveSame (families : List Family) (cut heard : HeardCopy) : Type 0 where
-  pub after : families_after families cut ≡ families_after families heard
-  pub family : (combined_copy families cut).family ≡ (combined_copy families heard).family
-  pub copy : (combined_copy families cut).copy ≡ (combined_copy families heard).copy
+pub record LeaveSame (limit : ℕ) (families : List Family) (cut heard : HeardCopy) : Type 0 where
+  pub after : families_after_holding limit families cut
+      ≡ families_after_holding limit families heard
+  pub family : (combined_copy_holding limit families cut).family
+      ≡ (combined_copy_holding limit families heard).family
+  pub copy : (combined_copy_holding limit families cut).copy
+      ≡ (combined_copy_holding limit families heard).copy
 
 too_many : (heard : HeardCopy) → nat_le (length heard.positions) 8192 ≡ false
     → has_family heard ≡ false
@@ -329,11 +334,11 @@ all_taken (suc n) [] few = refl
 all_taken zero (x ∷ xs) few = absurd (omega arith)
 all_taken (suc n) (x ∷ xs) few = ap (λ l. x ∷ l) (all_taken n xs (omega arith))
 
-cut_by : (families : List Family) (heard : HeardCopy) (copy : TaggedCopy)
+cut_by : (limit : ℕ) (families : List Family) (heard : HeardCopy) (copy : TaggedCopy)
     (positions : List Reception) (b : Bool) → heard.copy ≡ copy
     → positions ≡ take 8193 heard.positions → nat_le (length heard.positions) 8192 ≡ b
-    → LeaveSame families (record { copy = copy; positions = positions }) heard
-cut_by families heard copy positions true is given few =
+    → LeaveSame limit families (record { copy = copy; positions = positions }) heard
+cut_by limit families heard copy positions true is given few =
     let all : take 8193 heard.positions ≡ heard.positions =
     all_taken 8193 heard.positions
     (let most = leb-true (length heard.positions) 8192 few in omega arith) in
@@ -341,18 +346,18 @@ cut_by families heard copy positions true is given few =
     ap₂ (λ (c : TaggedCopy) (p : List Reception). record { copy = c; positions = p }) (sym is)
     (given ∙ all) in
     record {
-      after = ap (families_after families) same;
-      family = ap (λ h. (combined_copy families h).family) same;
-      copy = ap (λ h. (combined_copy families h).copy) same;
+      after = ap (families_after_holding limit families) same;
+      family = ap (λ h. (combined_copy_holding limit families h).family) same;
+      copy = ap (λ h. (combined_copy_holding limit families h).copy) same;
     }
-cut_by families heard copy positions false is given many =
+cut_by limit families heard copy positions false is given many =
     let cut : HeardCopy = record { copy = copy; positions = positions } in
     let long : length positions ≡ min 8193 (length heard.positions) =
     ap length given ∙ length-take 8193 heard.positions in
-    let none = no_family families heard (too_many heard many) in
+    let none = no_family limit families heard (too_many heard many) in
     let over : 8192 < length heard.positions = leb-false (length heard.positions) 8192 many in
     let none_cut =
-    no_family families cut (too_many cut (lt-leb (length positions) 8192 (omega arith))) in
+    no_family limit families cut (too_many cut (lt-leb (length positions) 8192 (omega arith))) in
     record {
       after = none_cut.after ∙ sym none.after;
       family = ap (λ (o : CombinedCopy). o.family) none_cut.one
@@ -362,11 +367,11 @@ cut_by families heard copy positions false is given many =
           ∙ sym (ap (λ (o : CombinedCopy). o.copy) none.one);
     }
 
-pub cut_same : (families : List Family) (heard : HeardCopy) (copy : TaggedCopy)
+pub cut_same : (limit : ℕ) (families : List Family) (heard : HeardCopy) (copy : TaggedCopy)
     (positions : List Reception) → IsGivenAs heard copy positions
-    → LeaveSame families (record { copy = copy; positions = positions }) heard
-cut_same families heard copy positions is =
-    cut_by families heard copy positions (nat_le (length heard.positions) 8192) is.heard_copy
+    → LeaveSame limit families (record { copy = copy; positions = positions }) heard
+cut_same limit families heard copy positions is =
+    cut_by limit families heard copy positions (nat_le (length heard.positions) 8192) is.heard_copy
     is.given refl
 
 -- a combined copy is that of its own copy
@@ -383,29 +388,32 @@ own_if families heard true None = refl
 own_if families heard true (Some index) =
     own_at families heard index (slice_get families index) refl
 
-pub own_is : (families : List Family) (heard : HeardCopy)
-    → (combined_copy families heard).own ≡ heard
-unfolding combined_copy
-own_is families heard = own_if families heard (has_family heard) (index_joined families heard)
+pub own_is : (limit : ℕ) (families : List Family) (heard : HeardCopy)
+    → (combined_copy_holding limit families heard).own ≡ heard
+unfolding combined_copy_holding
+own_is limit families heard = own_if families heard (has_family heard)
+    (index_joined_holding limit families heard)
 
 -- what a copy comes to, of which so many positions are given
-pub comes_by : (families : List Family) (heard : HeardCopy) (head : EntryHead) (text : List ℕ)
+pub comes_by : (limit : ℕ) (families : List Family) (heard : HeardCopy) (head : EntryHead)
+    (text : List ℕ)
     (selected : Bool) (positions : List Reception) (read : List ℕ) (answer : Combined)
     → IsGivenAs heard (headed_copy head text selected) positions
-    → IsCombined (combined_copy families (heard_of head text selected positions))
-    (families_after families (heard_of head text selected positions)) read answer
-    → ComesTo (combined_copy families heard) (families_after families heard) answer.family
+    → IsCombined (combined_copy_holding limit families (heard_of head text selected positions))
+    (families_after_holding limit families (heard_of head text selected positions)) read answer
+    → ComesTo (combined_copy_holding limit families heard)
+    (families_after_holding limit families heard) answer.family
     (meant answer.given read (headed_copy head text selected))
-comes_by families heard head text selected positions read answer is combined =
+comes_by limit families heard head text selected positions read answer is combined =
     let cut = heard_of head text selected positions in
-    let same = cut_same families heard (headed_copy head text selected) positions is in
+    let same = cut_same limit families heard (headed_copy head text selected) positions is in
     record {
       of_family = sym same.family
           ∙ combined.family
           ∙ ap (λ (l : List Family). option_map (λ i. length l - 1 - i) answer.family) same.after;
       is = sym same.copy
           ∙ combined.copy
-          ∙ ap (λ (h : HeardCopy). meant answer.given read h.copy) (own_is families cut);
+          ∙ ap (λ (h : HeardCopy). meant answer.given read h.copy) (own_is limit families cut);
     }
 
 -- What a call that looks at the index of a family finds.
@@ -421,19 +429,21 @@ pub within_some : (family : Option ℕ) (index count : ℕ) → family ≡ Some 
 within_some family index count is within =
     subst (λ (o : Option ℕ). IfSome o (λ i. i < count)) is within
 
-pub found_at : (families held : List Family) (before : List CombinedCopy) (one : CombinedCopy)
+pub found_at : (limit : ℕ) (families held : List Family) (before : List CombinedCopy)
+    (one : CombinedCopy)
     (printed : List (Option EntryHead)) (finder : FinderView) (family : Option ℕ) (index : ℕ)
     (copy : TaggedCopy) (found : Option (Option EntryHead))
-    → StandsCombined (record { families = held; printed = printed; finder = finder }) families
+    → StandsHolding limit (record { families = held; printed = printed; finder = finder }) families
     before
     → ComesTo one families family copy → family ≡ Some index
     → IfSome family (λ i. i < length held) → found ≡ slice_get printed index
     → FoundAt families before one index found
-found_at families held before one printed finder family index copy found stands comes is within
+found_at limit families held before one printed finder family index copy found stands comes is
+    within
     there =
     record {
       of = comes.of_family ∙ ap (option_map (λ i. length families - 1 - i)) is;
-      is = there ∙ last_at families held before printed finder index stands
+      is = there ∙ last_at limit families held before printed finder index stands
           (within_some family index (length held) is within);
     }
 
@@ -469,7 +479,7 @@ prints_where entries content before one head text selected known held is knows =
     || (k && is_better_than_before before one))
     (sym (knows ∙ ap (is_known head.identity head.moment) held))
 
-or_false : (b : Bool) → (b || false) ≡ b
+pub or_false : (b : Bool) → (b || false) ≡ b
 or_false true = refl
 or_false false = refl
 
@@ -490,7 +500,7 @@ or_true : (b : Bool) → (b || true) ≡ true
 or_true true = refl
 or_true false = refl
 
-and_true : (b : Bool) → (b && true) ≡ b
+pub and_true : (b : Bool) → (b && true) ≡ b
 and_true true = refl
 and_true false = refl
 
@@ -558,9 +568,12 @@ numbered_some (Some i) P is h = h
 
 -- A combiner that has judged nothing.
 
-pub stands_first : (held : List Family) (printed : List (Option EntryHead)) (finder : FinderView)
-    → held ≡ [] → printed ≡ []
-    → StandsCombined (record { families = held; printed = printed; finder = finder }) [] []
+pub stands_first : (limit : ℕ) (held : List Family) (printed : List (Option EntryHead))
+    (finder : FinderView) → held ≡ [] → printed ≡ []
+    → StandsHolding limit (record { families = held; printed = printed; finder = finder }) [] []
 unfolding all_last_printed
-stands_first held printed finder none nothing =
-    record { held = none; printed = nothing; begun = tt }
+stands_first limit held printed finder none nothing = record {
+  held = none ∙ sym (take-nil limit);
+  printed = nothing ∙ sym (take-nil limit);
+  begun = tt;
+}

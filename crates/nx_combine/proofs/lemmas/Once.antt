@@ -1,7 +1,10 @@
 -- A message is printed whole once, whatever else is heard.
-use Rattle.std.proofs.Common.{◌≡◌, ℕ, zero, suc, ◌+◌, ◌-◌, ◌*◌, ◌<◌, ◌≤◌, max, Bool, true, false, not, cond}
-use Rattle.std.proofs.Common.{◌&&◌, ◌||◌, if◌then◌else◌, nat_lt, Option, Some, None, List, [], ◌∷◌, ◌++◌}
-use Rattle.std.proofs.Common.{length, map, drop, refl, sym, ap, ap₂, ◌∙◌, subst, subst₂, arith, append_assoc, append-nil}
+use Rattle.std.proofs.Common.{◌≡◌, ℕ, zero, suc, ◌+◌, ◌-◌, ◌*◌, ◌<◌, ◌≤◌, max, Bool, true, false}
+use Rattle.std.proofs.Common.{not, cond}
+use Rattle.std.proofs.Common.{◌&&◌, ◌||◌, if◌then◌else◌, nat_lt, Option, Some, None, List, [], ◌∷◌}
+use Rattle.std.proofs.Common.{◌++◌}
+use Rattle.std.proofs.Common.{length, map, drop, refl, sym, ap, ap₂, ◌∙◌, subst, subst₂, arith}
+use Rattle.std.proofs.Common.{append_assoc, append-nil}
 use Rattle.std.proofs.lemmas.Bool.{eq-eqb, eqb-true, le-leb, leb-true, lt-ltb}
 use Rattle.std.proofs.lemmas.List.{drop-append-le, length-append}
 use Rattle.std.proofs.lemmas.List.Folds.{list_any-append}
@@ -21,18 +24,24 @@ use Rattle.nx_memory.specs.declared.memories.entry.MemoryEntry.{MemoryEntry}
 use Rattle.nx_copies.specs.copies.FoundCopies.{TaggedCopy}
 use Rattle.nx_copies.specs.copies.Printing.{entry_of, is_better, is_full, is_good, is_number_00}
 use Rattle.nx_copies.specs.copies.Printing.{is_printed, is_remembered}
-use Rattle.nx_combine.specs.CombinedPrinting.{are_of_one_family, entry_made_combined, is_better_than_before, is_entered_combined}
+use Rattle.nx_combine.specs.CombinedPrinting.{are_of_one_family, entry_made_combined}
+use Rattle.nx_combine.specs.CombinedPrinting.{is_better_than_before, is_entered_combined}
 use Rattle.nx_combine.specs.CombinedPrinting.{if_printed_combined, is_printed_combined}
 use Rattle.nx_combine.specs.CombinedPrinting.{printed_combined}
 use Rattle.nx_combine.specs.CopyPositions.{HeardCopy}
-use Rattle.nx_combine.specs.Families.{CombinedCopy, Family, alone, combined_at, combined_copies}
-use Rattle.nx_combine.specs.Families.{combined_copy, families_after, given_by, has_family, index_joined}
-use Rattle.nx_combine.specs.Families.{joined_by}
-use Rattle.nx_combine.specs.Judging.{Judged, all_printed, is_of_number, judged_after, judged_behind}
-use Rattle.nx_combine.specs.Judging.{printed_by}
-use Rattle.nx_combine.specs.Laws.{AreSendings, FewBegun, FewMade}
-use Rattle.nx_combine.specs.Laws.{IsSending, IsWholeCopy, IsWholeOnce, bears, families_behind, is_named}
-use Rattle.nx_combine.specs.Laws.{AreHeardTogether, CameThrough, IsHeardOf, IsWhole, positions_heard}
+use Rattle.nx_combine.specs.Families.{CombinedCopy, Family, alone, combined_at}
+use Rattle.nx_combine.specs.Families.{combined_copies_holding}
+use Rattle.nx_combine.specs.Families.{combined_copy_holding, families_after_holding, given_by}
+use Rattle.nx_combine.specs.Families.{has_family, index_joined_holding}
+use Rattle.nx_combine.specs.Families.{combined_copies, combined_copy, joined_by, most_families}
+use Rattle.nx_combine.specs.Judging.{Judged, all_printed_holding, is_of_number}
+use Rattle.nx_combine.specs.Judging.{judged_after_holding, judged_behind_holding}
+use Rattle.nx_combine.specs.Judging.{all_printed, printed_by_holding}
+use Rattle.nx_combine.specs.Laws.{AreSendings, FewBegunHolding, FewMadeHolding}
+use Rattle.nx_combine.specs.Laws.{IsSending, IsWholeCopy, IsWholeOnce, bears}
+use Rattle.nx_combine.specs.Laws.{families_behind_holding, is_named}
+use Rattle.nx_combine.specs.Laws.{AreHeardTogetherHolding, CameThrough, IsHeardOf, IsWhole}
+use Rattle.nx_combine.specs.Laws.{positions_heard}
 use Rattle.nx_combine.proofs.lemmas.Held.{Begins, begins_one, joined_at_index, joins_one, no_family}
 use Rattle.nx_combine.proofs.lemmas.Judged.{better_alone, find_by_number, is_not, made_printed}
 use Rattle.nx_combine.proofs.lemmas.Judged.{own_is, made_unprinted, printed, unprinted}
@@ -61,55 +70,69 @@ unselected_by entries before one fails none =
     || (is_remembered entries one.copy && b)) fails (better_alone before one none)
     ∙ and_false (is_remembered entries one.copy)
 
-pub unselected : (so_far : Judged) (heard : HeardCopy) → heard.copy.selected ≡ false
-    → is_printed_combined so_far.entries so_far.printed (combined_copy so_far.families heard)
+pub unselected : (limit : ℕ) (so_far : Judged) (heard : HeardCopy) → heard.copy.selected ≡ false
+    → is_printed_combined so_far.entries so_far.printed
+    (combined_copy_holding limit so_far.families heard)
     ≡ false
-unselected so_far heard fails =
+unselected limit so_far heard fails =
     let has : has_family heard ≡ false = rw fails refl in
-    let one = (no_family so_far.families heard has).one in
-    unselected_by so_far.entries so_far.printed (combined_copy so_far.families heard)
+    let one = (no_family limit so_far.families heard has).one in
+    unselected_by so_far.entries so_far.printed (combined_copy_holding limit so_far.families heard)
     (ap (λ (o : CombinedCopy). o.copy.selected) one ∙ fails)
     (ap (λ (o : CombinedCopy). o.family) one)
 
-in_order_if : (so_far : Judged) (heard : HeardCopy) (later : List HeardCopy) (b : Bool)
+in_order_if : (limit : ℕ) (so_far : Judged) (heard : HeardCopy) (later : List HeardCopy) (b : Bool)
     → heard.copy.selected ≡ b
-    → all_printed (judged_after so_far heard) later
-    ≡ printed_combined (judged_after so_far heard).entries (judged_after so_far heard).printed
-    (combined_copies (judged_after so_far heard).families later)
-    → all_printed so_far (heard ∷ later)
+    → all_printed_holding limit (judged_after_holding limit so_far heard) later
+    ≡ printed_combined (judged_after_holding limit so_far heard).entries
+    (judged_after_holding limit so_far heard).printed
+    (combined_copies_holding limit (judged_after_holding limit so_far heard).families later)
+    → all_printed_holding limit so_far (heard ∷ later)
     ≡ printed_combined so_far.entries so_far.printed
-    ((if b then combined_copy so_far.families heard ∷ [] else [])
-    ++ combined_copies (families_after so_far.families heard) later)
+    ((if b then combined_copy_holding limit so_far.families heard ∷ [] else [])
+    ++ combined_copies_holding limit (families_after_holding limit so_far.families heard) later)
 unfolding printed_combined
-in_order_if so_far heard later true is rest = ap (λ l. printed_by so_far heard ++ l) rest
-in_order_if so_far heard later false is rest =
-    let fails = unselected so_far heard is in
-    let one = combined_copy so_far.families heard in
+in_order_if limit so_far heard later true is rest =
+    ap (λ l. printed_by_holding limit so_far heard ++ l) rest
+in_order_if limit so_far heard later false is rest =
+    let fails = unselected limit so_far heard is in
+    let one = combined_copy_holding limit so_far.families heard in
     let none = unprinted so_far.entries so_far.printed one fails in
-    ap (λ l. l ++ all_printed (judged_after so_far heard) later) none
+    ap (λ l. l ++ all_printed_holding limit (judged_after_holding limit so_far heard) later) none
     ∙ rest
-    ∙ ap₂ (λ e p. printed_combined e p (combined_copies (families_after so_far.families heard)
+    ∙ ap₂ (λ e p. printed_combined e p (combined_copies_holding limit
+    (families_after_holding limit so_far.families heard)
     later))
     (ap (λ m. so_far.entries ++ m) (made_unprinted so_far.entries so_far.printed one fails)
     ∙ append-nil so_far.entries)
     (ap (λ l. l ++ so_far.printed) none)
 
+pub in_order_holding : (limit : ℕ) (so_far : Judged) (copies : List HeardCopy)
+    → all_printed_holding limit so_far copies
+    ≡ printed_combined so_far.entries so_far.printed
+    (combined_copies_holding limit so_far.families copies)
+unfolding printed_combined combined_copies_holding
+in_order_holding limit so_far [] = refl
+in_order_holding limit so_far (heard ∷ later) =
+    in_order_if limit so_far heard later heard.copy.selected refl
+    (in_order_holding limit (judged_after_holding limit so_far heard) later)
+
 pub in_order : (so_far : Judged) (copies : List HeardCopy) → all_printed so_far copies
     ≡ printed_combined so_far.entries so_far.printed (combined_copies so_far.families copies)
-unfolding printed_combined combined_copies
-in_order so_far [] = refl
-in_order so_far (heard ∷ later) =
-    in_order_if so_far heard later heard.copy.selected refl
-    (in_order (judged_after so_far heard) later)
+in_order = in_order_holding most_families
 
-pub all_printed-append : (so_far : Judged) (xs ys : List HeardCopy)
-    → all_printed so_far (xs ++ ys)
-    ≡ all_printed so_far xs ++ all_printed (judged_behind so_far xs) ys
-all_printed-append so_far [] ys = refl
-all_printed-append so_far (x ∷ xs) ys =
-    ap (λ l. printed_by so_far x ++ l) (all_printed-append (judged_after so_far x) xs ys)
-    ∙ sym (append_assoc (printed_by so_far x) (all_printed (judged_after so_far x) xs)
-    (all_printed (judged_behind (judged_after so_far x) xs) ys))
+pub all_printed-append : (limit : ℕ) (so_far : Judged) (xs ys : List HeardCopy)
+    → all_printed_holding limit so_far (xs ++ ys)
+    ≡ all_printed_holding limit so_far xs ++ all_printed_holding limit
+    (judged_behind_holding limit so_far xs) ys
+all_printed-append limit so_far [] ys = refl
+all_printed-append limit so_far (x ∷ xs) ys =
+    ap (λ l. printed_by_holding limit so_far x ++ l)
+    (all_printed-append limit (judged_after_holding limit so_far x) xs ys)
+    ∙ sym (append_assoc (printed_by_holding limit so_far x)
+    (all_printed_holding limit (judged_after_holding limit so_far x) xs)
+    (all_printed_holding limit (judged_behind_holding limit
+    (judged_after_holding limit so_far x) xs) ys))
 
 -- A combined copy bears what its copy bears.
 
@@ -145,16 +168,20 @@ tagged_if families heard true None = tagged_same heard.copy
 tagged_if families heard true (Some index) =
     tagged_at families heard index (slice_get families index) refl
 
+pub tagged_as_holding : (limit : ℕ) (families : List Family) (heard : HeardCopy)
+    → IsTagged (combined_copy_holding limit families heard).copy heard.copy
+unfolding combined_copy_holding
+tagged_as_holding limit families heard =
+    tagged_if families heard (has_family heard) (index_joined_holding limit families heard)
+
 pub tagged_as : (families : List Family) (heard : HeardCopy)
     → IsTagged (combined_copy families heard).copy heard.copy
-unfolding combined_copy
-tagged_as families heard =
-    tagged_if families heard (has_family heard) (index_joined families heard)
+tagged_as = tagged_as_holding most_families
 
-pub named_as : (identity : Identity) (families : List Family) (heard : HeardCopy)
-    → is_named identity (combined_copy families heard) ≡ bears identity heard
-named_as identity families heard =
-    ap (λ i. same_identity i identity) (tagged_as families heard).identity
+pub named_as : (limit : ℕ) (identity : Identity) (families : List Family) (heard : HeardCopy)
+    → is_named identity (combined_copy_holding limit families heard) ≡ bears identity heard
+named_as limit identity families heard =
+    ap (λ i. same_identity i identity) (tagged_as_holding limit families heard).identity
 
 -- What holds behind the first sending: the sendings so far make the family of this number, one of
 -- its copies was printed last, and where that is good an entry of it was made behind the first
@@ -192,37 +219,38 @@ none_number : (one : CombinedCopy) (number : ℕ) → one.family ≡ None
     → is_of_number number one ≡ false
 none_number one number is = rw is refl
 
-module _ (sent : List ℕ) (behind : ℕ → ℕ) (identity : Identity) (moment number : ℕ)
+module _ (limit : ℕ) (sent : List ℕ) (behind : ℕ → ℕ) (identity : Identity) (moment number : ℕ)
     (first : List MemoryEntry) where
   other_by : (families : List Family) (done : List (List Reception)) (heard : HeardCopy)
       (o : Option ℕ) → Stands sent behind identity moment (number + 1) families done
-      → bears identity heard ≡ false → has_family heard ≡ true → index_joined families heard ≡ o
-      → is_of_number number (combined_copy families heard) ≡ false
+      → bears identity heard ≡ false → has_family heard ≡ true
+      → index_joined_holding limit families heard ≡ o
+      → is_of_number number (combined_copy_holding limit families heard) ≡ false
   other_by families done heard None stands other has none =
-      let begins = begins_one families heard has none in
+      let begins = begins_one limit families heard has none in
       let counted = stands.count in
-      is_not (combined_copy families heard) (length families) number
+      is_not (combined_copy_holding limit families heard) (length families) number
       (ap (λ (o : CombinedCopy). o.family) begins.one) (λ same. omega arith)
   other_by families done heard (Some at) stands other has joins =
-      let j = joined_at_index families heard at joins in
-      let one = joins_one families heard at j.family has joins j.there in
+      let j = joined_at_index limit families heard at joins in
+      let one = joins_one limit families heard at j.family has joins j.there in
       let counted = stands.count in
       let within = slice_get_within families at j.family j.there in
-      let apart = stands_apart sent behind identity moment (number + 1) families done heard at
-      j.family stands other (joined_last families heard at joins) j.there in
-      is_not (combined_copy families heard) (length families - 1 - at) number
+      let apart = stands_apart limit sent behind identity moment (number + 1) families done heard at
+      j.family stands other (joined_last limit families heard at joins) j.there in
+      is_not (combined_copy_holding limit families heard) (length families - 1 - at) number
       (ap (λ (o : CombinedCopy). o.family) one.one)
       (λ same. apart (omega arith))
 
   other_if_family : (families : List Family) (done : List (List Reception)) (heard : HeardCopy)
       (b : Bool) → Stands sent behind identity moment (number + 1) families done
       → bears identity heard ≡ false → has_family heard ≡ b
-      → is_of_number number (combined_copy families heard) ≡ false
+      → is_of_number number (combined_copy_holding limit families heard) ≡ false
   other_if_family families done heard true stands other has =
-      other_by families done heard (index_joined families heard) stands other has refl
+      other_by families done heard (index_joined_holding limit families heard) stands other has refl
   other_if_family families done heard false stands other has =
-      none_number (combined_copy families heard) number
-      (ap (λ (o : CombinedCopy). o.family) (no_family families heard has).one)
+      none_number (combined_copy_holding limit families heard) number
+      (ap (λ (o : CombinedCopy). o.family) (no_family limit families heard has).one)
 
   find_other : (one : CombinedCopy) (before : List CombinedCopy) (b : Bool)
       → is_of_number number one ≡ false
@@ -235,13 +263,14 @@ module _ (sent : List ℕ) (behind : ℕ → ℕ) (identity : Identity) (moment 
   pub goes_other : (so_far : Judged) (done : List (List Reception)) (last : CombinedCopy)
       (heard : HeardCopy) → Goes sent behind identity moment number first so_far done last
       → bears identity heard ≡ false
-      → Goes sent behind identity moment number first (judged_after so_far heard) done last
+      → Goes sent behind identity moment number first
+      (judged_after_holding limit so_far heard) done last
   unfolding if_printed_combined
   goes_other so_far done last heard goes other =
-      let one = combined_copy so_far.families heard in
+      let one = combined_copy_holding limit so_far.families heard in
       let more = entry_made_combined so_far.entries so_far.printed one in
       record {
-        stands = other_if sent behind identity moment (number + 1) so_far.families done heard
+        stands = other_if limit sent behind identity moment (number + 1) so_far.families done heard
             (has_family heard) goes.stands other refl;
         found = find_other one so_far.printed
             (is_printed_combined so_far.entries so_far.printed one)
@@ -258,12 +287,13 @@ module _ (sent : List ℕ) (behind : ℕ → ℕ) (identity : Identity) (moment 
       → Stands sent behind identity moment (number + 1) families done
       → bears identity heard ≡ true
       → IsSending sent behind moment heard
-      → length families < number + 1 + 200
-      → (combined_copy families heard).family ≡ Some number
+      → length families < number + 1 + limit
+      → (combined_copy_holding limit families heard).family ≡ Some number
   number_is families done heard stands is sending few =
-      let joins = joins_it sent behind identity moment (number + 1) families done heard stands is
+      let joins = joins_it limit sent behind identity moment
+      (number + 1) families done heard stands is
       sending few in
-      let one = joins_one families heard stands.index stands.family sending.family joins
+      let one = joins_one limit families heard stands.index stands.family sending.family joins
       stands.there in
       let counted = stands.count in
       let this : length families - 1 - stands.index ≡ number = omega arith in
@@ -273,17 +303,19 @@ module _ (sent : List ℕ) (behind : ℕ → ℕ) (identity : Identity) (moment 
       (heard : HeardCopy) → Goes sent behind identity moment number first so_far done last
       → bears identity heard ≡ true
       → IsSending sent behind moment heard
-      → length so_far.families < number + 1 + 200 → IsNeverIdle sent heard.positions
-      → is_printed_combined so_far.entries so_far.printed (combined_copy so_far.families heard)
+      → length so_far.families < number + 1 + limit → IsNeverIdle sent heard.positions
+      → is_printed_combined so_far.entries so_far.printed
+      (combined_copy_holding limit so_far.families heard)
       ≡ false
-      → Goes sent behind identity moment number first (judged_after so_far heard)
+      → Goes sent behind identity moment number first (judged_after_holding limit so_far heard)
       (done ++ heard.positions ∷ []) last
   goes_unprinted so_far done last heard goes is sending few never fails =
-      let one = combined_copy so_far.families heard in
+      let one = combined_copy_holding limit so_far.families heard in
       let none = unprinted so_far.entries so_far.printed one fails in
       let unmade = made_unprinted so_far.entries so_far.printed one fails in
       record {
-        stands = sending_joins sent behind identity moment (number + 1) so_far.families done heard
+        stands = sending_joins limit sent behind identity moment
+            (number + 1) so_far.families done heard
             goes.stands is sending few;
         found = ap (λ l. find (is_of_number number) (l ++ so_far.printed)) none ∙ goes.found;
         made = goes.made;
@@ -294,12 +326,14 @@ module _ (sent : List ℕ) (behind : ℕ → ℕ) (identity : Identity) (moment 
 
   pub own_entry : (families : List Family) (heard : HeardCopy) → bears identity heard ≡ true
       → moment ≤ heard.copy.moment
-      → list_any (is_own identity moment) (entry_of (combined_copy families heard).copy ∷ []) ≡ true
+      → list_any (is_own identity moment) (entry_of
+      (combined_copy_holding limit families heard).copy ∷ []) ≡ true
   own_entry families heard is in_turn =
-      let tagged = tagged_as families heard in
-      let named : same_identity (combined_copy families heard).copy.identity identity ≡ true =
+      let tagged = tagged_as_holding limit families heard in
+      let named : same_identity (combined_copy_holding limit families heard).copy.identity identity
+      ≡ true =
       ap (λ i. same_identity i identity) tagged.identity ∙ is in
-      let late : nat_le moment (combined_copy families heard).copy.moment ≡ true =
+      let late : nat_le moment (combined_copy_holding limit families heard).copy.moment ≡ true =
       ap (nat_le moment) tagged.moment ∙ le-leb moment heard.copy.moment in_turn in
       ap₂ (λ a b. (a && b) || false) named late
 
@@ -307,20 +341,22 @@ module _ (sent : List ℕ) (behind : ℕ → ℕ) (identity : Identity) (moment 
       (heard : HeardCopy) → Goes sent behind identity moment number first so_far done last
       → bears identity heard ≡ true
       → IsSending sent behind moment heard
-      → length so_far.families < number + 1 + 200 → moment ≤ heard.copy.moment
+      → length so_far.families < number + 1 + limit → moment ≤ heard.copy.moment
       → IsNeverIdle sent heard.positions
-      → is_printed_combined so_far.entries so_far.printed (combined_copy so_far.families heard)
+      → is_printed_combined so_far.entries so_far.printed
+      (combined_copy_holding limit so_far.families heard)
       ≡ true
-      → Goes sent behind identity moment number first (judged_after so_far heard)
-      (done ++ heard.positions ∷ []) (combined_copy so_far.families heard)
+      → Goes sent behind identity moment number first (judged_after_holding limit so_far heard)
+      (done ++ heard.positions ∷ []) (combined_copy_holding limit so_far.families heard)
   goes_printed so_far done last heard goes is sending few in_turn never passes =
-      let one = combined_copy so_far.families heard in
+      let one = combined_copy_holding limit so_far.families heard in
       let shown = printed so_far.entries so_far.printed one passes in
       let of = number_is so_far.families done heard goes.stands is sending few in
       let more = entry_made_combined so_far.entries so_far.printed one in
       let own : is_of_number number one ≡ true = rw of (eq-eqb number number refl) in
       record {
-        stands = sending_joins sent behind identity moment (number + 1) so_far.families done heard
+        stands = sending_joins limit sent behind identity moment
+            (number + 1) so_far.families done heard
             goes.stands is sending few;
         found = ap (λ l. find (is_of_number number) (l ++ so_far.printed)) shown
             ∙ ap (λ c. cond c (Some one) (find (is_of_number number) so_far.printed)) own;
@@ -452,7 +488,8 @@ all_if : (P : CombinedCopy → Type 0) (one : CombinedCopy) (rest : List Combine
 all_if P one rest true here behind = (here, behind)
 all_if P one rest false here behind = behind
 
-module _ (sent : List ℕ) (behind : ℕ → ℕ) (identity : Identity) (moment number count : ℕ)
+module _ (limit : ℕ) (sent : List ℕ) (behind : ℕ → ℕ) (identity : Identity)
+    (moment number count : ℕ)
     (first : List MemoryEntry) (own_few : count ≤ length first + 1) where
   abbrev Going : Judged → List (List Reception) → CombinedCopy → Type 0
   Going = Goes sent behind identity moment number first
@@ -463,11 +500,11 @@ module _ (sent : List ℕ) (behind : ℕ → ℕ) (identity : Identity) (moment 
     pub in_turn : AllByRecursion (λ heard. bears identity heard ≡ true → moment ≤ heard.copy.moment)
         copies
     pub arrive : AllByRecursion (λ heard. bears identity heard ≡ true → Arrives sent heard) copies
-    pub few_begun : FewBegun identity (number + 1) so_far.families copies
-    pub few_made : FewMade identity count so_far copies
+    pub few_begun : FewBegunHolding limit identity (number + 1) so_far.families copies
+    pub few_made : FewMadeHolding limit identity count so_far copies
 
   meets_more : (so_far : Judged) (heard : HeardCopy) (copies : List HeardCopy)
-      → Meets so_far (heard ∷ copies) → Meets (judged_after so_far heard) copies
+      → Meets so_far (heard ∷ copies) → Meets (judged_after_holding limit so_far heard) copies
   meets_more so_far heard copies meets = record {
     sendings = meets.sendings.1;
     in_turn = meets.in_turn.1;
@@ -480,14 +517,15 @@ module _ (sent : List ℕ) (behind : ℕ → ℕ) (identity : Identity) (moment 
   printed_no_more : (so_far : Judged) (done : List (List Reception)) (last : CombinedCopy)
       (heard : HeardCopy) (copies : List HeardCopy) → Going so_far done last → IsWholeCopy last
       → Meets so_far (heard ∷ copies) → bears identity heard ≡ true
-      → is_printed_combined so_far.entries so_far.printed (combined_copy so_far.families heard)
+      → is_printed_combined so_far.entries so_far.printed
+      (combined_copy_holding limit so_far.families heard)
       ≡ false
   printed_no_more so_far done last heard copies goes whole meets is =
-      let one = combined_copy so_far.families heard in
+      let one = combined_copy_holding limit so_far.families heard in
       let sending = meets.sendings.0 is in
-      let of = number_is sent behind identity moment number first so_far.families done heard
+      let of = number_is limit sent behind identity moment number first so_far.families done heard
       goes.stands is sending (meets.few_begun.0 is) in
-      let tagged = tagged_as so_far.families heard in
+      let tagged = tagged_as_holding limit so_far.families heard in
       let named : one.copy.identity ≡ identity =
       tagged.identity ∙ same_identity-true heard.copy.identity identity is in
       let long = length-append first goes.made in
@@ -509,38 +547,40 @@ module _ (sent : List ℕ) (behind : ℕ → ℕ) (identity : Identity) (moment 
   silent_if : (so_far : Judged) (done : List (List Reception)) (last : CombinedCopy)
       (heard : HeardCopy) (copies : List HeardCopy) (b : Bool) → Going so_far done last
       → IsWholeCopy last → Meets so_far (heard ∷ copies) → bears identity heard ≡ b
-      → ((next : List (List Reception)) → Going (judged_after so_far heard) next last
+      → ((next : List (List Reception)) → Going (judged_after_holding limit so_far heard) next last
       → AllByRecursion (λ other. is_named identity other ≡ false)
-      (all_printed (judged_after so_far heard) copies))
+      (all_printed_holding limit (judged_after_holding limit so_far heard) copies))
       → AllByRecursion (λ other. is_named identity other ≡ false)
-      (all_printed so_far (heard ∷ copies))
+      (all_printed_holding limit so_far (heard ∷ copies))
   unfolding if_printed_combined
   silent_if so_far done last heard copies true goes whole meets is rest =
       let fails = printed_no_more so_far done last heard copies goes whole meets is in
-      let one = combined_copy so_far.families heard in
+      let one = combined_copy_holding limit so_far.families heard in
       subst (λ (l : List CombinedCopy). AllByRecursion (λ other. is_named identity other ≡ false)
-      (l ++ all_printed (judged_after so_far heard) copies))
+      (l ++ all_printed_holding limit (judged_after_holding limit so_far heard) copies))
       (sym (unprinted so_far.entries so_far.printed one fails))
       (rest (done ++ heard.positions ∷ [])
-      (goes_unprinted sent behind identity moment number first so_far done last heard goes is
+      (goes_unprinted limit sent behind identity moment number first so_far done last heard goes is
       (meets.sendings.0 is) (meets.few_begun.0 is) (meets.arrive.0 is).never_idle fails))
   silent_if so_far done last heard copies false goes whole meets is rest =
-      let one = combined_copy so_far.families heard in
+      let one = combined_copy_holding limit so_far.families heard in
       all_if (λ other. is_named identity other ≡ false) one
-      (all_printed (judged_after so_far heard) copies)
+      (all_printed_holding limit (judged_after_holding limit so_far heard) copies)
       (is_printed_combined so_far.entries so_far.printed one)
-      (named_as identity so_far.families heard ∙ is)
+      (named_as limit identity so_far.families heard ∙ is)
       (rest done
-      (goes_other sent behind identity moment number first so_far done last heard goes is))
+      (goes_other limit sent behind identity moment number first so_far done last heard goes is))
 
   pub silent : (so_far : Judged) (done : List (List Reception)) (last : CombinedCopy)
       (copies : List HeardCopy)
       → Going so_far done last → IsWholeCopy last → Meets so_far copies
-      → AllByRecursion (λ other. is_named identity other ≡ false) (all_printed so_far copies)
+      → AllByRecursion (λ other. is_named identity other ≡ false)
+      (all_printed_holding limit so_far copies)
   silent so_far done last [] goes whole meets = tt
   silent so_far done last (heard ∷ copies) goes whole meets =
       silent_if so_far done last heard copies (bears identity heard) goes whole meets refl
-      (λ next goes_on. silent (judged_after so_far heard) next last copies goes_on whole
+      (λ next goes_on. silent (judged_after_holding limit so_far heard) next last copies goes_on
+      whole
       (meets_more so_far heard copies meets))
 
   -- What is printed of a copy with which the message is whole.
@@ -548,16 +588,17 @@ module _ (sent : List ℕ) (behind : ℕ → ℕ) (identity : Identity) (moment 
   letters_of : (so_far : Judged) (done : List (List Reception)) (last : CombinedCopy)
       (heard : HeardCopy) (copies : List HeardCopy) → has_ended (map combination sent) ≡ true
       → Going so_far done last → Meets so_far (heard ∷ copies) → bears identity heard ≡ true
-      → IsWholeCopy (combined_copy so_far.families heard)
-      → (combined_copy so_far.families heard).copy.text ≡ text_sent sent
+      → IsWholeCopy (combined_copy_holding limit so_far.families heard)
+      → (combined_copy_holding limit so_far.families heard).copy.text ≡ text_sent sent
   letters_of so_far done last heard copies ended goes meets is whole =
-      let one = combined_copy so_far.families heard in
+      let one = combined_copy_holding limit so_far.families heard in
       let sending = meets.sendings.0 is in
       let arrives = meets.arrive.0 is in
       let all : List (List Reception) = done ++ heard.positions ∷ [] in
-      let given = sending_gives sent behind identity moment (number + 1) so_far.families done heard
+      let given = sending_gives limit sent behind identity moment
+      (number + 1) so_far.families done heard
       goes.stands is sending (meets.few_begun.0 is) in
-      let own = ap (λ (h : HeardCopy). h.copy) (own_is so_far.families heard) in
+      let own = ap (λ (h : HeardCopy). h.copy) (own_is limit so_far.families heard) in
       letters_if sent (joined_all all) heard one
       (is_better heard.copy (given_by (joined_all all) heard.copy))
       (given.copy ∙ ap (combined (joined_all all)) own) whole
@@ -571,34 +612,37 @@ module _ (sent : List ℕ) (behind : ℕ → ℕ) (identity : Identity) (moment 
       → (so_far : Judged) (done : List (List Reception)) (last : CombinedCopy)
       (heard : HeardCopy) (later : List HeardCopy) (b : Bool) → Going so_far done last
       → ¬ IsWholeCopy last → Meets so_far (heard ∷ later) → bears identity heard ≡ true
-      → IsWholeCopy (combined_copy so_far.families heard)
-      → is_printed_combined so_far.entries so_far.printed (combined_copy so_far.families heard) ≡ b
-      → IsWholeOnce identity (text_sent sent) (all_printed so_far (heard ∷ []))
-      (all_printed (judged_after so_far heard) later)
+      → IsWholeCopy (combined_copy_holding limit so_far.families heard)
+      → is_printed_combined so_far.entries so_far.printed
+      (combined_copy_holding limit so_far.families heard) ≡ b
+      → IsWholeOnce identity (text_sent sent) (all_printed_holding limit so_far (heard ∷ []))
+      (all_printed_holding limit (judged_after_holding limit so_far heard) later)
   at_one ended so_far done last heard later true goes not_yet meets is whole passes =
-      let one = combined_copy so_far.families heard in
+      let one = combined_copy_holding limit so_far.families heard in
       record {
         before = [];
         one = one;
         after = [];
         among = ap (λ l. l ++ []) (printed so_far.entries so_far.printed one passes);
-        named = named_as identity so_far.families heard ∙ is;
+        named = named_as limit identity so_far.families heard ∙ is;
         whole = whole;
         letters = letters_of so_far done last heard later ended goes meets is whole;
         not_before = tt;
-        nothing_behind = silent (judged_after so_far heard) (done ++ heard.positions ∷ []) one later
-            (goes_printed sent behind identity moment number first so_far done last heard goes is
+        nothing_behind = silent (judged_after_holding limit so_far heard)
+            (done ++ heard.positions ∷ []) one later
+            (goes_printed limit sent behind identity moment number first so_far done last heard goes
+            is
             (meets.sendings.0 is) (meets.few_begun.0 is) (meets.in_turn.0 is) (meets.arrive.0
             is).never_idle passes)
             whole (meets_more so_far heard later meets);
       }
   at_one ended so_far done last heard later false goes not_yet meets is whole fails =
-      let one = combined_copy so_far.families heard in
+      let one = combined_copy_holding limit so_far.families heard in
       let sending = meets.sendings.0 is in
-      let of = number_is sent behind identity moment number first so_far.families done heard
+      let of = number_is limit sent behind identity moment number first so_far.families done heard
       goes.stands is sending (meets.few_begun.0 is) in
       let there = find_by_number so_far.printed one number of ∙ goes.found in
-      let tagged = tagged_as so_far.families heard in
+      let tagged = tagged_as_holding limit so_far.families heard in
       let said = last_whole so_far.entries so_far.printed one whole (record {
         selected = tagged.selected
             ∙ has_selected heard.copy.selected (not (is_number_00 heard.copy))
@@ -621,28 +665,33 @@ module _ (sent : List ℕ) (behind : ℕ → ℕ) (identity : Identity) (moment 
   after_printed : (so_far : Judged) (next : List (List Reception)) (one : CombinedCopy)
       (heard : HeardCopy) (mid : List HeardCopy) (this : HeardCopy) (later : List HeardCopy)
       (b : Bool)
-      → printed_by so_far heard ≡ one ∷ [] → is_named identity one ≡ true
+      → printed_by_holding limit so_far heard ≡ one ∷ [] → is_named identity one ≡ true
       → (IsWholeCopy one → one.copy.text ≡ text_sent sent)
-      → Going (judged_after so_far heard) next one
-      → Meets (judged_after so_far heard) (mid ++ this ∷ later) → is_whole one.copy ≡ b
+      → Going (judged_after_holding limit so_far heard) next one
+      → Meets (judged_after_holding limit so_far heard) (mid ++ this ∷ later) → is_whole one.copy
+      ≡ b
       → (¬ IsWholeCopy one → IsWholeOnce identity (text_sent sent)
-      (all_printed (judged_after so_far heard) (mid ++ this ∷ []))
-      (all_printed (judged_behind (judged_after so_far heard) (mid ++ this ∷ [])) later))
-      → IsWholeOnce identity (text_sent sent) (all_printed so_far (heard ∷ (mid ++ this ∷ [])))
-      (all_printed (judged_behind (judged_after so_far heard) (mid ++ this ∷ [])) later)
+      (all_printed_holding limit (judged_after_holding limit so_far heard) (mid ++ this ∷ []))
+      (all_printed_holding limit (judged_behind_holding limit
+      (judged_after_holding limit so_far heard) (mid ++ this ∷ [])) later))
+      → IsWholeOnce identity (text_sent sent)
+      (all_printed_holding limit so_far (heard ∷ (mid ++ this ∷ [])))
+      (all_printed_holding limit (judged_behind_holding limit
+      (judged_after_holding limit so_far heard) (mid ++ this ∷ [])) later)
   after_printed so_far next one heard mid this later true shown named lettered goes meets is rest =
-      let after = judged_after so_far heard in
+      let after = judged_after_holding limit so_far heard in
       let up_to : List HeardCopy = mid ++ this ∷ [] in
       let whole = whole_if one is in
       let split : mid ++ this ∷ later ≡ up_to ++ later = sym (append_assoc mid (this ∷ []) later) in
-      let all : all_printed after (mid ++ this ∷ later)
-      ≡ all_printed after up_to ++ all_printed (judged_behind after up_to) later =
-      ap (all_printed after) split ∙ all_printed-append after up_to later in
+      let all : all_printed_holding limit after (mid ++ this ∷ later)
+      ≡ all_printed_holding limit after up_to
+      ++ all_printed_holding limit (judged_behind_holding limit after up_to) later =
+      ap (all_printed_holding limit after) split ∙ all_printed-append limit after up_to later in
       record {
         before = [];
         one = one;
-        after = all_printed after up_to;
-        among = ap (λ l. l ++ all_printed after up_to) shown;
+        after = all_printed_holding limit after up_to;
+        among = ap (λ l. l ++ all_printed_holding limit after up_to) shown;
         named = named;
         whole = whole;
         letters = lettered whole;
@@ -652,22 +701,23 @@ module _ (sent : List ℕ) (behind : ℕ → ℕ) (identity : Identity) (moment 
             (silent after next one (mid ++ this ∷ later) goes whole meets);
       }
   after_printed so_far next one heard mid this later false shown named lettered goes meets is rest =
-      let after = judged_after so_far heard in
+      let after = judged_after_holding limit so_far heard in
       let up_to : List HeardCopy = mid ++ this ∷ [] in
       let not_it = not_whole_if one is in
-      once_behind identity (text_sent sent) (printed_by so_far heard) (all_printed after up_to)
-      (all_printed (judged_behind after up_to) later)
+      once_behind identity (text_sent sent) (printed_by_holding limit so_far heard)
+      (all_printed_holding limit after up_to)
+      (all_printed_holding limit (judged_behind_holding limit after up_to) later)
       (subst (AllByRecursion (λ other. is_named identity other ≡ true → ¬ IsWholeCopy other))
       (sym shown) ((λ _. not_it), tt))
       (rest not_it)
 
   none_named : (so_far : Judged) (heard : HeardCopy) (b : Bool) → bears identity heard ≡ false
       → AllByRecursion (λ other. is_named identity other ≡ true → ¬ IsWholeCopy other)
-      (if b then combined_copy so_far.families heard ∷ [] else [])
+      (if b then combined_copy_holding limit so_far.families heard ∷ [] else [])
   none_named so_far heard true other = (
     λ named whole.
-        let not_it : is_named identity (combined_copy so_far.families heard) ≡ false =
-        named_as identity so_far.families heard ∙ other in
+        let not_it : is_named identity (combined_copy_holding limit so_far.families heard) ≡ false =
+        named_as limit identity so_far.families heard ∙ other in
         let contra : true ≡ false = sym named ∙ not_it in cc,
     tt,
   )
@@ -675,43 +725,46 @@ module _ (sent : List ℕ) (behind : ℕ → ℕ) (identity : Identity) (moment 
 
   abbrev Behind : Judged → List HeardCopy → HeardCopy → List HeardCopy → Type 0
   Behind so_far mid this later =
-      IsWholeOnce identity (text_sent sent) (all_printed so_far (mid ++ this ∷ []))
-      (all_printed (judged_behind so_far (mid ++ this ∷ [])) later)
+      IsWholeOnce identity (text_sent sent) (all_printed_holding limit so_far (mid ++ this ∷ []))
+      (all_printed_holding limit (judged_behind_holding limit so_far (mid ++ this ∷ [])) later)
 
   one_more_printed : has_ended (map combination sent) ≡ true
       → (so_far : Judged) (done : List (List Reception)) (last : CombinedCopy)
       (heard : HeardCopy) (mid : List HeardCopy) (this : HeardCopy) (later : List HeardCopy)
       (b : Bool) → Going so_far done last → ¬ IsWholeCopy last
       → Meets so_far (heard ∷ (mid ++ this ∷ later)) → bears identity heard ≡ true
-      → is_printed_combined so_far.entries so_far.printed (combined_copy so_far.families heard) ≡ b
+      → is_printed_combined so_far.entries so_far.printed
+      (combined_copy_holding limit so_far.families heard) ≡ b
       → ((next : List (List Reception)) (one : CombinedCopy)
-      → Going (judged_after so_far heard) next one → ¬ IsWholeCopy one
-      → Behind (judged_after so_far heard) mid this later)
+      → Going (judged_after_holding limit so_far heard) next one → ¬ IsWholeCopy one
+      → Behind (judged_after_holding limit so_far heard) mid this later)
       → Behind so_far (heard ∷ mid) this later
   one_more_printed ended so_far done last heard mid this later true goes not_yet meets is passes
       rest =
-      let one = combined_copy so_far.families heard in
+      let one = combined_copy_holding limit so_far.families heard in
       let next = done ++ heard.positions ∷ [] in
-      let goes_on = goes_printed sent behind identity moment number first so_far done last heard
+      let goes_on = goes_printed limit sent behind identity moment number first so_far done last
+      heard
       goes is (meets.sendings.0 is) (meets.few_begun.0 is) (meets.in_turn.0 is) (meets.arrive.0
       is).never_idle passes in
       after_printed so_far next one heard mid this later (is_whole one.copy)
       (printed so_far.entries so_far.printed one passes)
-      (named_as identity so_far.families heard ∙ is)
+      (named_as limit identity so_far.families heard ∙ is)
       (letters_of so_far done last heard (mid ++ this ∷ later) ended goes meets is) goes_on
       (meets_more so_far heard (mid ++ this ∷ later) meets) refl
       (λ not_it. rest next one goes_on not_it)
   one_more_printed ended so_far done last heard mid this later false goes not_yet meets is fails
       rest =
-      let one = combined_copy so_far.families heard in
-      let after = judged_after so_far heard in
+      let one = combined_copy_holding limit so_far.families heard in
+      let after = judged_after_holding limit so_far heard in
       let up_to : List HeardCopy = mid ++ this ∷ [] in
-      once_behind identity (text_sent sent) (printed_by so_far heard) (all_printed after up_to)
-      (all_printed (judged_behind after up_to) later)
+      once_behind identity (text_sent sent) (printed_by_holding limit so_far heard)
+      (all_printed_holding limit after up_to)
+      (all_printed_holding limit (judged_behind_holding limit after up_to) later)
       (subst (AllByRecursion (λ other. is_named identity other ≡ true → ¬ IsWholeCopy other))
       (sym (unprinted so_far.entries so_far.printed one fails)) tt)
       (rest (done ++ heard.positions ∷ []) last
-      (goes_unprinted sent behind identity moment number first so_far done last heard goes is
+      (goes_unprinted limit sent behind identity moment number first so_far done last heard goes is
       (meets.sendings.0 is) (meets.few_begun.0 is) (meets.arrive.0 is).never_idle fails) not_yet)
 
   one_more : has_ended (map combination sent) ≡ true
@@ -720,38 +773,45 @@ module _ (sent : List ℕ) (behind : ℕ → ℕ) (identity : Identity) (moment 
       (b : Bool) → Going so_far done last → ¬ IsWholeCopy last
       → Meets so_far (heard ∷ (mid ++ this ∷ later)) → bears identity heard ≡ b
       → ((next : List (List Reception)) (one : CombinedCopy)
-      → Going (judged_after so_far heard) next one → ¬ IsWholeCopy one
-      → Behind (judged_after so_far heard) mid this later)
+      → Going (judged_after_holding limit so_far heard) next one → ¬ IsWholeCopy one
+      → Behind (judged_after_holding limit so_far heard) mid this later)
       → Behind so_far (heard ∷ mid) this later
   unfolding if_printed_combined
   one_more ended so_far done last heard mid this later true goes not_yet meets is rest =
       one_more_printed ended so_far done last heard mid this later
-      (is_printed_combined so_far.entries so_far.printed (combined_copy so_far.families heard)) goes
+      (is_printed_combined so_far.entries so_far.printed
+      (combined_copy_holding limit so_far.families heard)) goes
       not_yet meets is refl rest
   one_more ended so_far done last heard mid this later false goes not_yet meets is rest =
-      let after = judged_after so_far heard in
+      let after = judged_after_holding limit so_far heard in
       let up_to : List HeardCopy = mid ++ this ∷ [] in
-      once_behind identity (text_sent sent) (printed_by so_far heard) (all_printed after up_to)
-      (all_printed (judged_behind after up_to) later)
+      once_behind identity (text_sent sent) (printed_by_holding limit so_far heard)
+      (all_printed_holding limit after up_to)
+      (all_printed_holding limit (judged_behind_holding limit after up_to) later)
       (none_named so_far heard
-      (is_printed_combined so_far.entries so_far.printed (combined_copy so_far.families heard)) is)
+      (is_printed_combined so_far.entries so_far.printed
+      (combined_copy_holding limit so_far.families heard)) is)
       (rest done last
-      (goes_other sent behind identity moment number first so_far done last heard goes is) not_yet)
+      (goes_other limit sent behind identity moment number first so_far done last heard goes is)
+      not_yet)
 
   pub becomes_whole : has_ended (map combination sent) ≡ true
       → (so_far : Judged) (done : List (List Reception)) (last : CombinedCopy)
       (mid : List HeardCopy) (this : HeardCopy) (later : List HeardCopy) → Going so_far done last
       → ¬ IsWholeCopy last → Meets so_far (mid ++ this ∷ later) → bears identity this ≡ true
-      → IsWholeCopy (combined_copy (families_behind so_far.families mid) this)
+      → IsWholeCopy (combined_copy_holding limit
+      (families_behind_holding limit so_far.families mid) this)
       → Behind so_far mid this later
   becomes_whole ended so_far done last [] this later goes not_yet meets is whole =
       at_one ended so_far done last this later
-      (is_printed_combined so_far.entries so_far.printed (combined_copy so_far.families this)) goes
+      (is_printed_combined so_far.entries so_far.printed
+      (combined_copy_holding limit so_far.families this)) goes
       not_yet meets is whole refl
   becomes_whole ended so_far done last (heard ∷ mid) this later goes not_yet meets is whole =
       one_more ended so_far done last heard mid this later (bears identity heard) goes not_yet
       meets refl
-      (λ next one goes_on not_it. becomes_whole ended (judged_after so_far heard) next one mid
+      (λ next one goes_on not_it. becomes_whole ended
+      (judged_after_holding limit so_far heard) next one mid
       this later
       goes_on not_it (meets_more so_far heard (mid ++ this ∷ later) meets) is whole)
 
@@ -834,22 +894,22 @@ whole_by sent copy one whole is = record {
       ∙ whole.no_error;
 }
 
-module _ (sent : List ℕ) (behind : ℕ → ℕ) (identity : Identity) (so_far : Judged)
+module _ (limit : ℕ) (sent : List ℕ) (behind : ℕ → ℕ) (identity : Identity) (so_far : Judged)
     (first : HeardCopy) (copies : List HeardCopy)
-    (t : AreHeardTogether sent behind identity so_far first copies) where
+    (t : AreHeardTogetherHolding limit sent behind identity so_far first copies) where
   abbrev number_first : ℕ
   number_first = length so_far.families
 
   abbrev one_first : CombinedCopy
-  one_first = combined_copy so_far.families first
+  one_first = combined_copy_holding limit so_far.families first
 
-  begins_first : Begins so_far.families first
-  begins_first = begins_one so_far.families first t.first_sending.family
+  begins_first : Begins limit so_far.families first
+  begins_first = begins_one limit so_far.families first t.first_sending.family
       t.begins
 
   shows_first : is_printed_combined so_far.entries so_far.printed one_first ≡ true
   shows_first =
-      let tagged = tagged_as so_far.families first in
+      let tagged = tagged_as_holding limit so_far.families first in
       first_printed so_far.entries so_far.printed one_first
       (tagged.selected
       ∙ has_selected first.copy.selected (not (is_number_00 first.copy))
@@ -858,7 +918,7 @@ module _ (sent : List ℕ) (behind : ℕ → ℕ) (identity : Identity) (so_far 
       (ap (λ (o : CombinedCopy). o.copy) begins_first.one) ∙ t.unknown)
 
   goes_first : Goes sent behind identity first.copy.moment number_first so_far.entries
-      (judged_after so_far first) (first.positions ∷ []) one_first
+      (judged_after_holding limit so_far first) (first.positions ∷ []) one_first
   goes_first =
       let of : one_first.family ≡ Some number_first =
       ap (λ (o : CombinedCopy). o.family) begins_first.one in
@@ -866,7 +926,8 @@ module _ (sent : List ℕ) (behind : ℕ → ℕ) (identity : Identity) (so_far 
       rw of (eq-eqb number_first number_first refl) in
       let more = entry_made_combined so_far.entries so_far.printed one_first in
       record {
-        stands = first_begins sent behind identity so_far.families first t.begins t.first_bears
+        stands = first_begins limit sent behind identity so_far.families first t.begins
+            t.first_bears
             t.first_sending;
         found = ap (λ l. find (is_of_number number_first) (l ++ so_far.printed))
             (printed so_far.entries so_far.printed one_first shows_first)
@@ -880,11 +941,11 @@ module _ (sent : List ℕ) (behind : ℕ → ℕ) (identity : Identity) (so_far 
             made_printed so_far.entries so_far.printed one_first true shows_first
             (sym (ap₂ (λ a b. a && b) good (ap is_some of))) in
             ap (list_any (is_own identity first.copy.moment)) made
-            ∙ own_entry sent behind identity first.copy.moment number_first so_far.entries
+            ∙ own_entry limit sent behind identity first.copy.moment number_first so_far.entries
             so_far.families first t.first_bears (omega arith);
       }
 
-  few_first : length (judged_after so_far first).entries ≤ length so_far.entries + 1
+  few_first : length (judged_after_holding limit so_far first).entries ≤ length so_far.entries + 1
   few_first =
       let long = length-append so_far.entries
       (entry_made_combined so_far.entries so_far.printed one_first) in
@@ -892,9 +953,9 @@ module _ (sent : List ℕ) (behind : ℕ → ℕ) (identity : Identity) (so_far 
       omega arith
 
   abbrev After : List HeardCopy → Type 0
-  After = Meets sent behind identity first.copy.moment number_first
-      (length (judged_after so_far first).entries) so_far.entries few_first
-      (judged_after so_far first)
+  After = Meets limit sent behind identity first.copy.moment number_first
+      (length (judged_after_holding limit so_far first).entries) so_far.entries few_first
+      (judged_after_holding limit so_far first)
 
   meets_first : After copies
   meets_first = record {
@@ -906,7 +967,7 @@ module _ (sent : List ℕ) (behind : ℕ → ℕ) (identity : Identity) (so_far 
   }
 
   named_first : is_named identity one_first ≡ true
-  named_first = named_as identity so_far.families first ∙ t.first_bears
+  named_first = named_as limit identity so_far.families first ∙ t.first_bears
 
   letters_first : has_ended (map combination sent) ≡ true → IsWholeCopy one_first
       → one_first.copy.text ≡ text_sent sent
@@ -933,8 +994,8 @@ module _ (sent : List ℕ) (behind : ℕ → ℕ) (identity : Identity) (so_far 
 
   once_first : has_ended (map combination sent) ≡ true → IsWhole (map combination sent)
       → CameThrough sent (first.positions ∷ [])
-      → IsWholeOnce identity (text_sent sent) (all_printed so_far (first ∷ []))
-      (all_printed (judged_after so_far first) copies)
+      → IsWholeOnce identity (text_sent sent) (all_printed_holding limit so_far (first ∷ []))
+      (all_printed_holding limit (judged_after_holding limit so_far first) copies)
   once_first ended whole came =
       let is_it = whole_first ended whole came in
       record {
@@ -946,9 +1007,10 @@ module _ (sent : List ℕ) (behind : ℕ → ℕ) (identity : Identity) (so_far 
         whole = is_it;
         letters = letters_first ended is_it;
         not_before = tt;
-        nothing_behind = silent sent behind identity first.copy.moment number_first
-            (length (judged_after so_far first).entries) so_far.entries few_first
-            (judged_after so_far first) (first.positions ∷ []) one_first copies goes_first is_it
+        nothing_behind = silent limit sent behind identity first.copy.moment number_first
+            (length (judged_after_holding limit so_far first).entries) so_far.entries few_first
+            (judged_after_holding limit so_far first)
+            (first.positions ∷ []) one_first copies goes_first is_it
             meets_first;
       }
 
@@ -958,13 +1020,15 @@ module _ (sent : List ℕ) (behind : ℕ → ℕ) (identity : Identity) (so_far 
       → bears identity one ≡ true
       → CameThrough sent ((first.positions ∷ positions_heard identity mid) ++ one.positions ∷ [])
       → IsWholeCopy
-      (combined_copy (families_behind (families_after so_far.families first) mid) one)
+      (combined_copy_holding limit (families_behind_holding limit
+      (families_after_holding limit so_far.families first) mid) one)
   whole_later ended whole mid later one is bears_it came =
-      let this = combined_copy (families_behind (families_after so_far.families first) mid) one in
+      let this = combined_copy_holding limit (families_behind_holding limit
+      (families_after_holding limit so_far.families first) mid) one in
       let all : List (List Reception) =
       (first.positions ∷ positions_heard identity mid) ++ one.positions ∷ [] in
       let sendings = subst (AreSendings sent behind first.copy.moment identity) is t.sendings in
-      let given = family_of_first sent behind identity so_far.families first copies t.begins
+      let given = family_of_first limit sent behind identity so_far.families first copies t.begins
       t.first_bears t.first_sending t.sendings t.few_begun mid later one is bears_it in
       let same = together_whole sent all ended (
         t.first_sending.as_sent,
@@ -977,19 +1041,22 @@ module _ (sent : List ℕ) (behind : ℕ → ℕ) (identity : Identity) (so_far 
       → (mid later : List HeardCopy) (one : HeardCopy) → copies ≡ mid ++ one ∷ later
       → bears identity one ≡ true
       → CameThrough sent ((first.positions ∷ positions_heard identity mid) ++ one.positions ∷ [])
-      → IsWholeOnce identity (text_sent sent) (all_printed so_far (first ∷ (mid ++ one ∷ [])))
-      (all_printed (judged_behind (judged_after so_far first) (mid ++ one ∷ [])) later)
+      → IsWholeOnce identity (text_sent sent)
+      (all_printed_holding limit so_far (first ∷ (mid ++ one ∷ [])))
+      (all_printed_holding limit (judged_behind_holding limit
+      (judged_after_holding limit so_far first) (mid ++ one ∷ [])) later)
   once_later ended whole mid later one is bears_it came =
-      let count = length (judged_after so_far first).entries in
+      let count = length (judged_after_holding limit so_far first).entries in
       let meets = subst After is meets_first in
-      after_printed sent behind identity first.copy.moment number_first count so_far.entries
+      after_printed limit sent behind identity first.copy.moment number_first count so_far.entries
       few_first so_far (first.positions ∷ []) one_first first mid one later
       (is_whole one_first.copy)
       (printed so_far.entries so_far.printed one_first shows_first) named_first
       (letters_first ended) goes_first meets refl
       (λ not_it.
-      becomes_whole sent behind identity first.copy.moment number_first count so_far.entries
-      few_first ended (judged_after so_far first) (first.positions ∷ []) one_first mid one later
+      becomes_whole limit sent behind identity first.copy.moment number_first count so_far.entries
+      few_first ended (judged_after_holding limit so_far first)
+      (first.positions ∷ []) one_first mid one later
       goes_first
       not_it meets bears_it (whole_later ended whole mid later one is bears_it came))
 
@@ -997,13 +1064,14 @@ module _ (sent : List ℕ) (behind : ℕ → ℕ) (identity : Identity) (so_far 
       → (mid later : List HeardCopy) (one : HeardCopy) → first ∷ copies ≡ mid ++ one ∷ later
       → bears identity one ≡ true
       → CameThrough sent (positions_heard identity (mid ++ one ∷ []))
-      → IsWholeOnce identity (text_sent sent) (all_printed so_far (mid ++ one ∷ []))
-      (all_printed (judged_behind so_far (mid ++ one ∷ [])) later)
+      → IsWholeOnce identity (text_sent sent) (all_printed_holding limit so_far (mid ++ one ∷ []))
+      (all_printed_holding limit (judged_behind_holding limit so_far (mid ++ one ∷ [])) later)
   once_all ended whole [] later one is bears_it came =
       let same : first ≡ one = cc in
       let rest : copies ≡ later = cc in
-      subst₂ (λ h l. IsWholeOnce identity (text_sent sent) (all_printed so_far (h ∷ []))
-      (all_printed (judged_after so_far h) l)) same rest
+      subst₂ (λ h l. IsWholeOnce identity (text_sent sent)
+      (all_printed_holding limit so_far (h ∷ []))
+      (all_printed_holding limit (judged_after_holding limit so_far h) l)) same rest
       (once_first ended whole
       (subst (CameThrough sent) (heard_first identity first [] t.first_bears)
       (subst (λ (h : HeardCopy). CameThrough sent (positions_heard identity (h ∷ []))) (sym same)
@@ -1019,7 +1087,9 @@ module _ (sent : List ℕ) (behind : ℕ → ℕ) (identity : Identity) (so_far 
       ≡ (first.positions ∷ positions_heard identity mid) ++ one.positions ∷ [] =
       heard_first identity first (mid ++ one ∷ []) t.first_bears
       ∙ ap (λ l. first.positions ∷ l) (heard_push identity mid one bears_it) in
-      subst (λ (h : HeardCopy). IsWholeOnce identity (text_sent sent) (all_printed so_far (h ∷
+      subst (λ (h : HeardCopy). IsWholeOnce identity (text_sent sent)
+      (all_printed_holding limit so_far (h ∷
       (mid ++ one ∷ [])))
-      (all_printed (judged_behind (judged_after so_far h) (mid ++ one ∷ [])) later)) same
+      (all_printed_holding limit (judged_behind_holding limit (judged_after_holding limit so_far h)
+      (mid ++ one ∷ [])) later)) same
       (once_later ended whole mid later one rest bears_it (subst (CameThrough sent) heard here))

@@ -1,6 +1,7 @@
 -- The sendings of a message make one family, whatever is heard between them.
 use Rattle.std.proofs.Common.{◌≡◌, ◌≢◌, ℕ, zero, suc, ◌+◌, ◌-◌, ◌<◌, ◌≤◌, Bool, true}
-use Rattle.std.proofs.Common.{false, not, cond, if◌then◌else◌, ◌&&◌, ◌||◌, nat_lt, Option, Some, None}
+use Rattle.std.proofs.Common.{false, not, cond, if◌then◌else◌, ◌&&◌, ◌||◌, nat_lt, Option, Some}
+use Rattle.std.proofs.Common.{None}
 use Rattle.std.proofs.Common.{List, [], ◌∷◌, ◌++◌, length, map, refl, sym, ap, ap₂, ◌∙◌, subst}
 use Rattle.std.proofs.Common.{arith, append_assoc, append-nil, get_or}
 use Rattle.std.proofs.Math.ListN.{set}
@@ -21,15 +22,18 @@ use Rattle.nx_envelope.proofs.lemmas.headers.Identities.{same_identity-true, sam
 use Rattle.nx_copies.specs.copies.FoundCopies.{TaggedCopy}
 use Rattle.nx_copies.specs.copies.Printing.{has_fewer_errors, is_better, is_full}
 use Rattle.nx_combine.specs.CopyPositions.{HeardCopy}
-use Rattle.nx_combine.specs.Families.{CombinedCopy, Family, begun_by, combined_copy, families_after}
+use Rattle.nx_combine.specs.Families.{CombinedCopy, Family, begun_by, combined_copy_holding}
+use Rattle.nx_combine.specs.Families.{families_after_holding}
 use Rattle.nx_combine.specs.Families.{combined, given_by, has_family}
-use Rattle.nx_combine.specs.Families.{index_joined, joined_by, joins_at, last_index, takes_in}
+use Rattle.nx_combine.specs.Families.{index_joined_holding, joined_by, joins_at_holding, last_index}
+use Rattle.nx_combine.specs.Families.{takes_in}
 use Rattle.nx_combine.specs.Joining.{is_of_one_text, joined}
 use Rattle.nx_combine.specs.PositionEnds.{ending_by, up_to_end}
 use Rattle.nx_combine.proofs.lemmas.Combine.{how_given, text_given}
-use Rattle.nx_combine.specs.Laws.{AreSendings, FewBegun, IsGivenBy, IsHeardOf, IsSending, IsWhole}
+use Rattle.nx_combine.specs.Laws.{AreSendings, FewBegunHolding, IsGivenBy, IsHeardOf, IsSending}
+use Rattle.nx_combine.specs.Laws.{IsWhole}
 use Rattle.nx_combine.specs.Laws.{RunOnAlike, RunsOnAs}
-use Rattle.nx_combine.specs.Laws.{bears, families_behind, joined_all, positions_heard}
+use Rattle.nx_combine.specs.Laws.{bears, families_behind_holding, joined_all, positions_heard}
 use Rattle.nx_combine.proofs.lemmas.Held.{begins_one, from_if, if_joins, index_joined-at}
 use Rattle.nx_combine.proofs.lemmas.Held.{index_joined-none, joined_at_index, joins_one, no_family}
 use Rattle.nx_combine.proofs.lemmas.Invented.{set_other}
@@ -136,20 +140,21 @@ run_alike sent behind (p ∷ done) next each last = (
 
 -- One copy more, of another identity.
 
-joined_last_if : (families : List Family) (heard : HeardCopy) (o : Option ℕ) (index : ℕ)
-    → option_and_then (if_joins families heard) o ≡ Some index → o ≡ Some index
-joined_last_if families heard None index is = absurd (let contra : None ≡ Some index = is in cc)
-joined_last_if families heard (Some k) index is =
-    ap Some (from_if (joins_at families heard k) k index is).1
+joined_last_if : (limit : ℕ) (families : List Family) (heard : HeardCopy) (o : Option ℕ) (index : ℕ)
+    → option_and_then (if_joins limit families heard) o ≡ Some index → o ≡ Some index
+joined_last_if limit families heard None index is =
+    absurd (let contra : None ≡ Some index = is in cc)
+joined_last_if limit families heard (Some k) index is =
+    ap Some (from_if (joins_at_holding limit families heard k) k index is).1
 
-pub joined_last : (families : List Family) (heard : HeardCopy) (index : ℕ)
-    → index_joined families heard ≡ Some index
+pub joined_last : (limit : ℕ) (families : List Family) (heard : HeardCopy) (index : ℕ)
+    → index_joined_holding limit families heard ≡ Some index
     → last_index heard.copy.identity families ≡ Some index
-unfolding index_joined
-joined_last families heard index is =
-    joined_last_if families heard (last_index heard.copy.identity families) index is
+unfolding index_joined_holding
+joined_last limit families heard index is =
+    joined_last_if limit families heard (last_index heard.copy.identity families) index is
 
-module _ (sent : List ℕ) (behind : ℕ → ℕ) (identity : Identity) (moment first : ℕ) where
+module _ (limit : ℕ) (sent : List ℕ) (behind : ℕ → ℕ) (identity : Identity) (moment first : ℕ) where
   abbrev pub Now : List Family → List (List Reception) → Type 0
   Now = Stands sent behind identity moment first
 
@@ -211,26 +216,27 @@ module _ (sent : List ℕ) (behind : ℕ → ℕ) (identity : Identity) (moment 
 
   other_by : (families : List Family) (done : List (List Reception)) (heard : HeardCopy)
       (o : Option ℕ) → Now families done → bears identity heard ≡ false → has_family heard ≡ true
-      → index_joined families heard ≡ o → Now (families_after families heard) done
+      → index_joined_holding limit families heard ≡ o
+      → Now (families_after_holding limit families heard) done
   other_by families done heard None stands other has none =
-      subst (λ l. Now l done) (sym (begins_one families heard has none).after)
+      subst (λ l. Now l done) (sym (begins_one limit families heard has none).after)
       (other_begins families done (begun_by heard) stands other)
   other_by families done heard (Some at) stands other has joins =
-      let j = joined_at_index families heard at joins in
-      let one = joins_one families heard at j.family has joins j.there in
+      let j = joined_at_index limit families heard at joins in
+      let one = joins_one limit families heard at j.family has joins j.there in
       subst (λ l. Now l done) (sym one.after)
       (other_joins families done at j.family (joined_by heard j.family) stands j.there refl
       (stands_apart families done heard at j.family stands other
-      (joined_last families heard at joins) j.there))
+      (joined_last limit families heard at joins) j.there))
 
   pub other_if : (families : List Family) (done : List (List Reception)) (heard : HeardCopy) (b :
       Bool)
       → Now families done → bears identity heard ≡ false → has_family heard ≡ b
-      → Now (families_after families heard) done
+      → Now (families_after_holding limit families heard) done
   other_if families done heard true stands other has =
-      other_by families done heard (index_joined families heard) stands other has refl
+      other_by families done heard (index_joined_holding limit families heard) stands other has refl
   other_if families done heard false stands other has =
-      subst (λ l. Now l done) (sym (no_family families heard has).after) stands
+      subst (λ l. Now l done) (sym (no_family limit families heard has).after) stands
 
   -- One more sending.
 
@@ -240,11 +246,11 @@ module _ (sent : List ℕ) (behind : ℕ → ℕ) (identity : Identity) (moment 
 
   pub joins_it : (families : List Family) (done : List (List Reception)) (heard : HeardCopy)
       → (stands : Now families done) → bears identity heard ≡ true
-      → IsSending sent behind moment heard → length families < first + 200
-      → index_joined families heard ≡ Some stands.index
+      → IsSending sent behind moment heard → length families < first + limit
+      → index_joined_holding limit families heard ≡ Some stands.index
   joins_it families done heard stands is sending few =
       let counted = stands.count in
-      let low : stands.index < 200 = omega arith in
+      let low : stands.index < limit = omega arith in
       let last : last_index heard.copy.identity families ≡ Some stands.index =
       ap (λ i. last_index i families) (identity_is heard is) ∙ stands.last in
       let near : nat_lt (heard.copy.moment - stands.family.moment) 237600 ≡ true =
@@ -255,16 +261,16 @@ module _ (sent : List ℕ) (behind : ℕ → ℕ) (identity : Identity) (moment 
       ∙ together_of_one_text sent done heard.positions stands.as_sent sending.as_sent
       (run_alike sent behind done heard.positions stands.runs_on sending.runs_on) in
       let takes : takes_in stands.family heard ≡ true = ap₂ (λ a b. a && b) near alike in
-      index_joined-at families heard stands.index stands.family true last stands.there low
+      index_joined-at limit families heard stands.index stands.family true last stands.there low
       (sym takes)
 
   pub sending_joins : (families : List Family) (done : List (List Reception)) (heard : HeardCopy)
       → Now families done → bears identity heard ≡ true → IsSending sent behind moment heard
-      → length families < first + 200
-      → Now (families_after families heard) (done ++ heard.positions ∷ [])
+      → length families < first + limit
+      → Now (families_after_holding limit families heard) (done ++ heard.positions ∷ [])
   sending_joins families done heard stands is sending few =
       let joins = joins_it families done heard stands is sending few in
-      let one = joins_one families heard stands.index stands.family sending.family joins
+      let one = joins_one limit families heard stands.index stands.family sending.family joins
       stands.there in
       let new : Family = joined_by heard stands.family in
       let within = slice_get_within families stands.index stands.family stands.there in
@@ -285,11 +291,12 @@ module _ (sent : List ℕ) (behind : ℕ → ℕ) (identity : Identity) (moment 
 
   pub sending_gives : (families : List Family) (done : List (List Reception)) (heard : HeardCopy)
       → Now families done → bears identity heard ≡ true → IsSending sent behind moment heard
-      → length families < first + 200
-      → IsGivenBy (joined_all (done ++ heard.positions ∷ [])) (combined_copy families heard)
+      → length families < first + limit
+      → IsGivenBy (joined_all (done ++ heard.positions ∷ []))
+      (combined_copy_holding limit families heard)
   sending_gives families done heard stands is sending few =
       let joins = joins_it families done heard stands is sending few in
-      let one = joins_one families heard stands.index stands.family sending.family joins
+      let one = joins_one limit families heard stands.index stands.family sending.family joins
       stands.there in
       let all : joined stands.family.positions heard.positions
       ≡ joined_all (done ++ heard.positions ∷ []) =
@@ -303,8 +310,9 @@ module _ (sent : List ℕ) (behind : ℕ → ℕ) (identity : Identity) (moment 
       : Bool)
       → Now families done → bears identity heard ≡ b
       → (bears identity heard ≡ true → IsSending sent behind moment heard)
-      → (bears identity heard ≡ true → length families < first + 200)
-      → Now (families_after families heard) (if b then done ++ heard.positions ∷ [] else done)
+      → (bears identity heard ≡ true → length families < first + limit)
+      → Now (families_after_holding limit families heard)
+      (if b then done ++ heard.positions ∷ [] else done)
   copy_more families done heard true stands is sending few =
       sending_joins families done heard stands is (sending is) (few is)
   copy_more families done heard false stands is sending few =
@@ -326,11 +334,11 @@ module _ (sent : List ℕ) (behind : ℕ → ℕ) (identity : Identity) (moment 
   -- what the copies behind give
   gives_all : (families : List Family) (done : List (List Reception)) (copies : List HeardCopy)
       → Now families done → AreSendings sent behind moment identity copies
-      → FewBegun identity first families copies
+      → FewBegunHolding limit identity first families copies
       → (mid later : List HeardCopy) (one : HeardCopy) → copies ≡ mid ++ one ∷ later
       → bears identity one ≡ true
       → IsGivenBy (joined_all ((done ++ positions_heard identity mid) ++ one.positions ∷ []))
-      (combined_copy (families_behind families mid) one)
+      (combined_copy_holding limit (families_behind_holding limit families mid) one)
   gives_all families done [] stands sendings few [] later one is bears_it =
       absurd (let contra : [] ≡ one ∷ later = is in cc)
   gives_all families done [] stands sendings few (x ∷ mid) later one is bears_it =
@@ -339,35 +347,40 @@ module _ (sent : List ℕ) (behind : ℕ → ℕ) (identity : Identity) (moment 
       let whole : heard ∷ copies ≡ one ∷ later = is in
       let same : heard ≡ one = cc in
       let this : bears identity heard ≡ true = ap (bears identity) same ∙ bears_it in
-      subst (λ l. IsGivenBy (joined_all (l ++ one.positions ∷ [])) (combined_copy families one))
+      subst (λ l. IsGivenBy (joined_all (l ++ one.positions ∷ []))
+      (combined_copy_holding limit families one))
       (sym (append-nil done))
       (subst (λ (h : HeardCopy). IsGivenBy (joined_all (done ++ h.positions ∷ []))
-      (combined_copy families h)) same
+      (combined_copy_holding limit families h)) same
       (sending_gives families done heard stands this (sendings.0 this) (few.0 this)))
   gives_all families done (heard ∷ copies) stands sendings few (x ∷ mid) later one is bears_it =
       let whole : heard ∷ copies ≡ x ∷ (mid ++ one ∷ later) = is in
       let same : heard ≡ x = cc in
       let rest : copies ≡ mid ++ one ∷ later = cc in
       let now = copy_more families done heard (bears identity heard) stands refl sendings.0 few.0 in
-      let after = gives_all (families_after families heard)
+      let after = gives_all (families_after_holding limit families heard)
       (if bears identity heard then done ++ heard.positions ∷ [] else done) copies now sendings.1
       few.1 mid later one rest bears_it in
       subst (λ (h : HeardCopy). IsGivenBy
       (joined_all ((done ++ positions_heard identity (h ∷ mid)) ++ one.positions ∷ []))
-      (combined_copy (families_behind (families_after families h) mid) one)) same
+      (combined_copy_holding limit (families_behind_holding limit
+      (families_after_holding limit families h) mid) one)) same
       (subst (λ l. IsGivenBy (joined_all (l ++ one.positions ∷ []))
-      (combined_copy (families_behind (families_after families heard) mid) one))
+      (combined_copy_holding limit (families_behind_holding limit
+      (families_after_holding limit families heard) mid) one))
       (positions_more done heard mid (bears identity heard) refl) after)
 
 -- the first sending begins the family
-pub first_begins : (sent : List ℕ) (behind : ℕ → ℕ) (identity : Identity) (families : List Family)
-    (heard : HeardCopy) → index_joined families heard ≡ None → bears identity heard ≡ true
+pub first_begins : (limit : ℕ) (sent : List ℕ) (behind : ℕ → ℕ) (identity : Identity)
+    (families : List Family)
+    (heard : HeardCopy) → index_joined_holding limit families heard ≡ None → bears identity heard
+    ≡ true
     → IsSending sent behind heard.copy.moment heard
     → Stands sent behind identity heard.copy.moment (length families + 1)
-    (families_after families heard) (heard.positions ∷ [])
+    (families_after_holding limit families heard) (heard.positions ∷ [])
 unfolding joined
-first_begins sent behind identity families heard none is sending =
-    let begins = begins_one families heard sending.family none in
+first_begins limit sent behind identity families heard none is sending =
+    let begins = begins_one limit families heard sending.family none in
     subst (λ l. Stands sent behind identity heard.copy.moment (length families + 1) l
     (heard.positions ∷ [])) (sym begins.after) (record {
       index = 0;
@@ -381,38 +394,43 @@ first_begins sent behind identity families heard none is sending =
       runs_on = (sending.runs_on, tt);
     })
 
-pub family_of_first : (sent : List ℕ) (behind : ℕ → ℕ) (identity : Identity)
+pub family_of_first : (limit : ℕ) (sent : List ℕ) (behind : ℕ → ℕ) (identity : Identity)
     (families : List Family) (heard : HeardCopy) (copies : List HeardCopy)
-    → index_joined families heard ≡ None → bears identity heard ≡ true
+    → index_joined_holding limit families heard ≡ None → bears identity heard ≡ true
     → IsSending sent behind heard.copy.moment heard
     → AreSendings sent behind heard.copy.moment identity copies
-    → FewBegun identity (length families + 1) (families_after families heard) copies
+    → FewBegunHolding limit identity (length families + 1)
+    (families_after_holding limit families heard) copies
     → (mid later : List HeardCopy) (one : HeardCopy) → copies ≡ mid ++ one ∷ later
     → bears identity one ≡ true
     → IsGivenBy
     (joined_all ((heard.positions ∷ positions_heard identity mid) ++ one.positions ∷ []))
-    (combined_copy (families_behind (families_after families heard) mid) one)
-family_of_first sent behind identity families heard copies none is sending sendings few =
-    gives_all sent behind identity heard.copy.moment (length families + 1)
-    (families_after families heard) (heard.positions ∷ []) copies
-    (first_begins sent behind identity families heard none is sending) sendings few
+    (combined_copy_holding limit (families_behind_holding limit
+    (families_after_holding limit families heard) mid) one)
+family_of_first limit sent behind identity families heard copies none is sending sendings few =
+    gives_all limit sent behind identity heard.copy.moment (length families + 1)
+    (families_after_holding limit families heard) (heard.positions ∷ []) copies
+    (first_begins limit sent behind identity families heard none is sending) sendings few
 
 -- so it is where no family of its identity was begun
-pub family_of_sendings : (sent : List ℕ) (behind : ℕ → ℕ) (identity : Identity)
+pub family_of_sendings : (limit : ℕ) (sent : List ℕ) (behind : ℕ → ℕ) (identity : Identity)
     (families : List Family) (heard : HeardCopy) (copies : List HeardCopy)
     → last_index identity families ≡ None → bears identity heard ≡ true
     → IsSending sent behind heard.copy.moment heard
     → AreSendings sent behind heard.copy.moment identity copies
-    → FewBegun identity (length families + 1) (families_after families heard) copies
+    → FewBegunHolding limit identity (length families + 1)
+    (families_after_holding limit families heard) copies
     → (mid later : List HeardCopy) (one : HeardCopy) → copies ≡ mid ++ one ∷ later
     → bears identity one ≡ true
     → IsGivenBy
     (joined_all ((heard.positions ∷ positions_heard identity mid) ++ one.positions ∷ []))
-    (combined_copy (families_behind (families_after families heard) mid) one)
-family_of_sendings sent behind identity families heard copies none is sending sendings few =
+    (combined_copy_holding limit (families_behind_holding limit
+    (families_after_holding limit families heard) mid) one)
+family_of_sendings limit sent behind identity families heard copies none is sending sendings few =
     let equal = same_identity-true heard.copy.identity identity is in
-    family_of_first sent behind identity families heard copies
-    (index_joined-none families heard (ap (λ i. last_index i families) equal ∙ none)) is sending
+    family_of_first limit sent behind identity families heard copies
+    (index_joined-none limit families heard (ap (λ i. last_index i families) equal ∙ none)) is
+    sending
     sendings few
 
 -- What is given whole.

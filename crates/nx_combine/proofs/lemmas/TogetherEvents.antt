@@ -1,5 +1,5 @@
 -- A moment or a command comes to a receiver that takes several sendings together.
-use Rattle.std.proofs.Common.{◌≡◌, Bool, List, [], ◌∷◌, ◌++◌, sym, ap, ◌∙◌, subst, append-nil}
+use Rattle.std.proofs.Common.{◌≡◌, ℕ, Bool, List, [], ◌∷◌, ◌++◌, sym, ap, ◌∙◌, subst, append-nil}
 use Rattle.nx_memory.specs.declared.memories.entry.MemoryEntry.{MemoryEntry}
 use Rattle.nx_sync.specs.Locks.{Now, hunting, locked}
 use Rattle.nx_copies.specs.Events.{Event, Setting, at_moment, command, element, elements_among}
@@ -8,9 +8,11 @@ use Rattle.nx_copies.specs.hearing.CopyHearer.{HearerStands}
 use Rattle.nx_copies.specs.hearing.CopyHearing.{in_force}
 use Rattle.nx_copies.proofs.lemmas.printing.Logged.{bits_of-append, settings-append}
 use Rattle.nx_receiver.specs.ChannelReceiver.{TakesEventBy}
-use Rattle.nx_receiver.proofs.lemmas.receiver.Events.{IsNoElement, a_command, a_moment, force-append}
+use Rattle.nx_receiver.proofs.lemmas.receiver.Events.{IsNoElement, a_command, a_moment}
+use Rattle.nx_receiver.proofs.lemmas.receiver.Events.{force-append}
 use Rattle.nx_combine.specs.CombinedHearing.{CombinedStands, copies_of}
-use Rattle.nx_combine.specs.CombinedReceiver.{CombiningReceiver, StandsTogether, combined_kind}
+use Rattle.nx_combine.specs.CombinedReceiver.{CombiningReceiver, StandsTogether}
+use Rattle.nx_combine.specs.CombinedReceiver.{combined_kind_holding}
 use Rattle.nx_combine.specs.CombinedReceiver.{hearer_in}
 use Rattle.nx_combine.specs.CombinedTaker.{TakesNow}
 use Rattle.nx_combine.specs.declared.taker.CombinedTaker.{CombinedTaker}
@@ -56,11 +58,12 @@ takes_still taker force bits (locked p t) takes =
     record { reads = takes.reads; notes = takes.notes }
 
 -- a receiver in which this event alone changed what is in force stands after the event
-pub together_after : {M : Type 0} (content : M → List MemoryEntry) (old : CombiningReceiver M)
+pub together_after : (limit : ℕ) {M : Type 0} (content : M → List MemoryEntry)
+    (old : CombiningReceiver M)
     (now : Setting) (event : Event) → IsNoElement event
     → now ≡ setting_after (in_force (hearer_in old)) event
-    → TakesEventBy (combined_kind content) old (with_force old now) event
-together_after content old now event none change start history log s =
+    → TakesEventBy (combined_kind_holding limit content) old (with_force old now) event
+together_after limit content old now event none change start history log s =
     let first = first_setting start in
     let new = with_force old now in
     let all = history ++ event ∷ [] in
@@ -86,7 +89,8 @@ together_after content old now event none change start history log s =
       };
       heard = was.heard;
     } in
-    let here : StandsTogether content start new (elements_among history) (settings first history)
+    let here : StandsTogether limit content start new (elements_among history)
+    (settings first history)
     (setting_after_all first all) log = record {
       copies = s.copies;
       stands = stands;
@@ -97,7 +101,8 @@ together_after content old now event none change start history log s =
         combiner = s.judged.combiner;
       };
     } in
-    let bits = subst (λ (h : List Bool). StandsTogether content start new h
+    let bits = subst (λ (h : List Bool). StandsTogether limit content start new h
     (settings first history) (setting_after_all first all) log) (sym is.bits) here in
-    subst (λ (forces : List Setting). StandsTogether content start new (elements_among all) forces
+    subst (λ (forces : List Setting). StandsTogether limit content start new
+    (elements_among all) forces
     (setting_after_all first all) log) (sym is.forces) bits

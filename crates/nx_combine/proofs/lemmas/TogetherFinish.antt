@@ -1,6 +1,7 @@
 -- What is over is finished: the copy that is ready is judged with the others of its family, and the
 -- text of a lock that is over ends.
-use Rattle.std.proofs.Common.{◌≡◌, ℕ, Bool, true, false, List, [], ◌∷◌, ◌++◌, Option, None, Some, cond}
+use Rattle.std.proofs.Common.{◌≡◌, ℕ, Bool, true, false, List, [], ◌∷◌, ◌++◌, Option, None, Some}
+use Rattle.std.proofs.Common.{cond}
 use Rattle.std.proofs.Common.{refl, sym, ap, ◌∙◌, subst, append-nil}
 use Rattle.std.specs.List.{All}
 use Rattle.std.proofs.lemmas.List.Elements.{All-head}
@@ -23,19 +24,20 @@ use Rattle.nx_copies.proofs.lemmas.copy_hearer.Takes.{none_ready}
 use Rattle.nx_receiver.specs.Receiver.{headed_list}
 use Rattle.nx_combine.specs.CombinedHearing.{AllHeard, CombinedOver, CombinedStands, LockHeard}
 use Rattle.nx_combine.specs.CombinedHearing.{copies_of}
-use Rattle.nx_combine.specs.CombinedPrinting.{PrintsCombinedToEnd}
-use Rattle.nx_combine.specs.CombinedReceiver.{AwaitsAfterAll, CombiningReceiver, HasJudged}
-use Rattle.nx_combine.specs.CombinedReceiver.{JudgesNext, StandsAfterAll, hearer_in, judged_none}
+use Rattle.nx_combine.specs.CombinedPrinting.{PrintsHoldingToEnd}
+use Rattle.nx_combine.specs.CombinedReceiver.{AwaitsAfterAllHolding, CombiningReceiver, HasJudged}
+use Rattle.nx_combine.specs.CombinedReceiver.{JudgesNext, StandsAfterAllHolding, hearer_in}
+use Rattle.nx_combine.specs.CombinedReceiver.{judged_none}
 use Rattle.nx_combine.specs.CombinedReceiver.{text_in}
 use Rattle.nx_combine.specs.CopyPositions.{HeardCopy}
-use Rattle.nx_combine.specs.Judging.{Judged, StandsCombined, judged_behind}
+use Rattle.nx_combine.specs.Judging.{Judged, StandsHolding, judged_behind_holding}
 use Rattle.nx_combine.specs.Notes.{noted}
 use Rattle.nx_combine.specs.declared.taker.CombinedTaker.{CombinedTaker}
 use Rattle.nx_combine.proofs.lemmas.JudgedOn.{has_judged_next}
 use Rattle.nx_combine.proofs.lemmas.TogetherHears.{printed_to_end}
 
 -- the copy that the finder had, if it had one, was judged, and brought this head
-pub record IsJudgedReady {M : Type 0} (content : M → List MemoryEntry)
+pub record IsJudgedReady (limit : ℕ) {M : Type 0} (content : M → List MemoryEntry)
     (old new : CombiningReceiver M) (head : Option EntryHead) : Type 0 where
   pub none : ready_copies (hearer_in old) ≡ []
       → (head ≡ None) × (new.memory ≡ old.memory) × (new.combiner ≡ old.combiner)
@@ -43,8 +45,9 @@ pub record IsJudgedReady {M : Type 0} (content : M → List MemoryEntry)
       → ready_copies (hearer_in old) ≡ heard.copy ∷ []
       → old.taker.notes.positions ≡ noted heard.positions
       → content old.memory ≡ last_of most_entries so_far.entries
-      → StandsCombined old.combiner so_far.families so_far.printed
-      → JudgesNext content new.memory new.combiner so_far heard (headed_list head (text_in new))
+      → StandsHolding limit old.combiner so_far.families so_far.printed
+      → JudgesNext limit content new.memory new.combiner so_far heard
+      (headed_list head (text_in new))
   pub taker : new.taker ≡ old.taker
   pub synchroniser : new.synchroniser ≡ old.synchroniser
 
@@ -66,22 +69,24 @@ one_ready held.Nothing text kept one other more is = cc
 one_ready (held.Open identity fresh) text kept one other more is = cc
 one_ready (held.Ready identity how) text kept one other more is = cc
 
-module _ {M : Type 0} (content : M → List MemoryEntry) (start : Start) (history : List Event)
+module _ (limit : ℕ) {M : Type 0} (content : M → List MemoryEntry) (start : Start)
+    (history : List Event)
     (log : List TaggedCopy) where
   -- a copy that was over alone was judged
   pub copy_done : (old new : CombiningReceiver M) (head : Option EntryHead)
-      → IsJudgedReady content old new head
-      → AwaitsAfterAll content start old history log (Some over.Copy)
-      → StandsAfterAll content start new history (log ++ headed_list head (text_in new))
+      → IsJudgedReady limit content old new head
+      → AwaitsAfterAllHolding limit content start old history log (Some over.Copy)
+      → StandsAfterAllHolding limit content start new history
+      (log ++ headed_list head (text_in new))
   copy_done old new head is awaits =
       let c = awaits.over in
-      let so_far = judged_behind (judged_none start.entries) awaits.copies in
+      let so_far = judged_behind_holding limit (judged_none start.entries) awaits.copies in
       let same : hearer_in new ≡ hearer_in old = rw (is.taker, is.synchroniser) refl in
       record {
         copies = awaits.copies ++ c.copy ∷ [];
         stands = rw (is.taker, is.synchroniser) c.stands;
         force = ap in_force same ∙ awaits.force;
-        judged = has_judged_next content start old new awaits.copies log
+        judged = has_judged_next limit content start old new awaits.copies log
             (headed_list head (text_in new)) c.copy awaits.judged
             (is.judged so_far c.copy c.has.ready c.has.positions awaits.judged.memory
             awaits.judged.combiner);
@@ -90,9 +95,9 @@ module _ {M : Type 0} (content : M → List MemoryEntry) (start : Start) (histor
   -- where no copy was ready, nothing was judged
   none_judged : (old new : CombiningReceiver M) (head : Option EntryHead)
       (copies : List HeardCopy)
-      → IsJudgedReady content old new head → ready_copies (hearer_in old) ≡ []
-      → HasJudged content start old copies log
-      → HasJudged content start new copies (log ++ headed_list head (text_in new))
+      → IsJudgedReady limit content old new head → ready_copies (hearer_in old) ≡ []
+      → HasJudged limit content start old copies log
+      → HasJudged limit content start new copies (log ++ headed_list head (text_in new))
   none_judged old new head copies is unready was =
       let none = is.none unready in
       let nothing : headed_list head (text_in new) ≡ [] =
@@ -100,16 +105,17 @@ module _ {M : Type 0} (content : M → List MemoryEntry) (start : Start) (histor
       record {
         printed = ap (λ l. log ++ l) nothing ∙ append-nil log ∙ was.printed;
         memory = ap content none.1 ∙ was.memory;
-        combiner = subst (λ v. StandsCombined v
-            (judged_behind (judged_none start.entries) copies).families
-            (judged_behind (judged_none start.entries) copies).printed) (sym none.2)
+        combiner = subst (λ v. StandsHolding limit v
+            (judged_behind_holding limit (judged_none start.entries) copies).families
+            (judged_behind_holding limit (judged_none start.entries) copies).printed) (sym none.2)
             was.combiner;
       }
 
   none_done : (old new : CombiningReceiver M) (head : Option EntryHead)
-      → IsJudgedReady content old new head → is_ready old.taker.copies.reader.finder ≡ false
-      → StandsAfterAll content start old history log
-      → StandsAfterAll content start new history (log ++ headed_list head (text_in new))
+      → IsJudgedReady limit content old new head → is_ready old.taker.copies.reader.finder ≡ false
+      → StandsAfterAllHolding limit content start old history log
+      → StandsAfterAllHolding limit content start new history
+      (log ++ headed_list head (text_in new))
   none_done old new head is unready s =
       let finder = old.taker.copies.reader.finder in
       let same : hearer_in new ≡ hearer_in old = rw (is.taker, is.synchroniser) refl in
@@ -129,9 +135,10 @@ module _ {M : Type 0} (content : M → List MemoryEntry) (start : Start) (histor
       → CombinedOver first old.synchroniser closed bits settings copies
       (over_now (hearer_of old.synchroniser closed.copies) false))
       → in_force (hearer_of old.synchroniser closed.copies) ≡ in_force (hearer_in old)
-      → IsJudgedReady content (with_its old closed) new head
-      → AwaitsAfterAll content start old history log (Some over.Lock)
-      → StandsAfterAll content start new history (log ++ headed_list head (text_in new))
+      → IsJudgedReady limit content (with_its old closed) new head
+      → AwaitsAfterAllHolding limit content start old history log (Some over.Lock)
+      → StandsAfterAllHolding limit content start new history
+      (log ++ headed_list head (text_in new))
   lock_done old new closed head closes force is awaits =
       by_ready (is_ready closed.copies.reader.finder) refl
     where
@@ -146,7 +153,8 @@ module _ {M : Type 0} (content : M → List MemoryEntry) (start : Start) (histor
           (settings (first_setting start) history) awaits.copies awaits.over)
 
       by_ready : (b : Bool) → is_ready closed.copies.reader.finder ≡ b
-          → StandsAfterAll content start new history (log ++ headed_list head (text_in new))
+          → StandsAfterAllHolding limit content start new history
+          (log ++ headed_list head (text_in new))
       by_ready true ready =
           copy_done (with_its old closed) new head is (record {
             copies = awaits.copies;
@@ -178,18 +186,18 @@ module _ {M : Type 0} (content : M → List MemoryEntry) (start : Start) (histor
       → CombinedStands first new.synchroniser left bits settings copies)
       → in_force (hearer_of new.synchroniser left.copies) ≡ in_force (hearer_in new)
       → left.copies.reader.finder.text ≡ new.taker.copies.reader.finder.text
-      → IsJudgedReady content old new head
-      → AwaitsAfterAll content start old history log (Some over.CopyAndLock)
-      → StandsAfterAll content start (with_its new left) history
+      → IsJudgedReady limit content old new head
+      → AwaitsAfterAllHolding limit content start old history log (Some over.CopyAndLock)
+      → StandsAfterAllHolding limit content start (with_its new left) history
       (log ++ headed_list head (text_in (with_its new left)))
   both_done old new left head leaves force text is awaits =
       let first = first_setting start in
       let h = elements_among history in
       let s = settings first history in
       let c = awaits.over in
-      let so_far = judged_behind (judged_none start.entries) awaits.copies in
+      let so_far = judged_behind_holding limit (judged_none start.entries) awaits.copies in
       let same : hearer_in new ≡ hearer_in old = rw (is.taker, is.synchroniser) refl in
-      let judged = has_judged_next content start old new awaits.copies log
+      let judged = has_judged_next limit content start old new awaits.copies log
       (headed_list head (text_in new)) c.copy awaits.judged
       (is.judged so_far c.copy c.has.ready c.has.positions awaits.judged.memory
       awaits.judged.combiner) in
@@ -215,16 +223,17 @@ module _ {M : Type 0} (content : M → List MemoryEntry) (start : Start) (histor
   -- where all elements ended, what was ready then was judged behind the others
   last_judged : (old new : CombiningReceiver M) (head : Option EntryHead)
       (copies last : List HeardCopy)
-      → IsJudgedReady content old new head → ready_copies (hearer_in old) ≡ copies_of last
+      → IsJudgedReady limit content old new head → ready_copies (hearer_in old) ≡ copies_of last
       → All (λ one. old.taker.notes.positions ≡ noted one.positions) last
-      → HasJudged content start old copies log
-      → HasJudged content start new (copies ++ last) (log ++ headed_list head (text_in new))
+      → HasJudged limit content start old copies log
+      → HasJudged limit content start new (copies ++ last) (log ++ headed_list head (text_in new))
   last_judged old new head copies [] is ready positions was =
-      subst (λ all. HasJudged content start new all (log ++ headed_list head (text_in new)))
+      subst (λ all. HasJudged limit content start new all (log ++ headed_list head (text_in new)))
       (sym (append-nil copies)) (none_judged old new head copies is ready was)
   last_judged old new head copies (one ∷ []) is ready positions was =
-      has_judged_next content start old new copies log (headed_list head (text_in new)) one was
-      (is.judged (judged_behind (judged_none start.entries) copies) one ready
+      has_judged_next limit content start old new copies log
+      (headed_list head (text_in new)) one was
+      (is.judged (judged_behind_holding limit (judged_none start.entries) copies) one ready
       (All-head (λ heard. old.taker.notes.positions ≡ noted heard.positions) one [] positions)
       was.memory was.combiner)
   last_judged old new head copies (one ∷ other ∷ more) is ready positions was =
@@ -237,10 +246,10 @@ module _ {M : Type 0} (content : M → List MemoryEntry) (start : Start) (histor
       → ((first : Setting) (bits : List Bool) (settings : List Setting) (copies : List HeardCopy)
       → CombinedStands first old.synchroniser old.taker bits settings copies
       → AllHeard first old.synchroniser closed bits settings copies)
-      → IsJudgedReady content (with_its old closed) new head
+      → IsJudgedReady limit content (with_its old closed) new head
       → given ≡ headed_list head (text_in new)
-      → StandsAfterAll content start old history log
-      → PrintsCombinedToEnd start history (log ++ given)
+      → StandsAfterAllHolding limit content start old history log
+      → PrintsHoldingToEnd limit start history (log ++ given)
   all_done old new closed head given ends is same s =
       let first = first_setting start in
       let all = ends first (elements_among history) (settings first history) s.copies s.stands in
@@ -250,5 +259,5 @@ module _ {M : Type 0} (content : M → List MemoryEntry) (start : Start) (histor
         memory = s.judged.memory;
         combiner = s.judged.combiner;
       }) in
-      printed_to_end start history (s.copies ++ all.last) (log ++ given) all.all
+      printed_to_end limit start history (s.copies ++ all.last) (log ++ given) all.all
       (ap (λ l. log ++ l) same ∙ judged.printed)

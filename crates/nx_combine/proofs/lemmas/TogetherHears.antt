@@ -16,12 +16,14 @@ use Rattle.nx_copies.proofs.lemmas.copy_hearer.Packed.{all_is}
 use Rattle.nx_receiver.specs.ChannelReceiver.{HandsOutNoneBeforeBy, HearsUpToBy}
 use Rattle.nx_receiver.proofs.lemmas.receiver.Events.{bits_of-more, force-more, settings-more}
 use Rattle.nx_combine.specs.CombinedHearing.{HaveAllBeenHeard, HaveBeenHeard, heard_by}
-use Rattle.nx_combine.specs.CombinedPrinting.{PrintsCombinedToEnd, printed_combined}
-use Rattle.nx_combine.specs.CombinedReceiver.{AwaitsAfterAll, AwaitsTogether, CombiningReceiver}
-use Rattle.nx_combine.specs.CombinedReceiver.{StandsAfterAll, combined_kind, hearer_in}
+use Rattle.nx_combine.specs.CombinedPrinting.{PrintsHoldingToEnd, printed_combined}
+use Rattle.nx_combine.specs.CombinedReceiver.{AwaitsAfterAllHolding, AwaitsTogether}
+use Rattle.nx_combine.specs.CombinedReceiver.{CombiningReceiver}
+use Rattle.nx_combine.specs.CombinedReceiver.{StandsAfterAllHolding, combined_kind_holding}
+use Rattle.nx_combine.specs.CombinedReceiver.{hearer_in}
 use Rattle.nx_combine.specs.CombinedTaker.{Hears}
 use Rattle.nx_combine.specs.CopyPositions.{HeardCopy, heard_copies}
-use Rattle.nx_combine.specs.Families.{combined_copies}
+use Rattle.nx_combine.specs.Families.{combined_copies_holding}
 use Rattle.nx_combine.specs.Judging.{all_copies}
 use Rattle.nx_combine.specs.declared.taker.CombinedTaker.{CombinedTaker}
 use Rattle.nx_combine.specs.private.CombiningLaws.{printed_of_heard}
@@ -34,19 +36,20 @@ with_taker receiver held taker = record receiver { synchroniser = held; taker = 
 
 -- a synchroniser and a taker heard these elements, and what is over with the last of them is
 -- awaited
-together_on : {M : Type 0} (content : M → List MemoryEntry) (old : CombiningReceiver M)
+together_on : (limit : ℕ) {M : Type 0} (content : M → List MemoryEntry) (old : CombiningReceiver M)
     (held : Held) (taker : CombinedTaker) (bits : List Bool) (answer : Option Over)
     → Hears old.synchroniser old.taker bits held taker answer
-    → HearsUpToBy (combined_kind content) (AwaitsAfterAll content) old (with_taker old held taker)
+    → HearsUpToBy (combined_kind_holding limit content) (AwaitsAfterAllHolding limit content) old
+    (with_taker old held taker)
     bits answer
-together_on content old held taker bits answer hears start events log s =
+together_on limit content old held taker bits answer hears start events log s =
     let first = first_setting start in
     let before = elements_among events in
     let forces = settings first events in
     let new = with_taker old held taker in
     let heard = hears_heard old.synchroniser held old.taker taker bits answer hears first before
     forces s.copies s.stands in
-    let over : AwaitsTogether content start new (before ++ bits)
+    let over : AwaitsTogether limit content start new (before ++ bits)
     (forces ++ all_in_force (hearer_in old) bits) (setting_after_all first events) log answer =
     record {
       copies = s.copies;
@@ -59,38 +62,41 @@ together_on content old held taker bits answer hears start events log s =
       };
     } in
     let all = events ++ elements bits in
-    let h = subst (λ h. AwaitsTogether content start new h
+    let h = subst (λ h. AwaitsTogether limit content start new h
     (forces ++ all_in_force (hearer_in old) bits) (setting_after_all first events) log answer)
     (sym (bits_of-more events bits)) over in
-    let t = subst (λ t. AwaitsTogether content start new (elements_among all) t
+    let t = subst (λ t. AwaitsTogether limit content start new (elements_among all) t
     (setting_after_all first events) log answer)
     (sym (settings-more first (hearer_in old) events bits s.force)) h in
-    subst (λ now. AwaitsTogether content start new (elements_among all) (settings first all) now log
+    subst (λ now. AwaitsTogether limit content start new (elements_among all)
+    (settings first all) now log
     answer) (sym (force-more first events bits)) t
 
 -- what is printed of copies that were heard, to the end
-pub printed_to_end : (start : Start) (events : List Event) (copies : List HeardCopy)
+pub printed_to_end : (limit : ℕ) (start : Start) (events : List Event) (copies : List HeardCopy)
     (log : List TaggedCopy)
     → HaveAllBeenHeard (first_setting start) (elements_among events)
     (settings (first_setting start) events) copies
-    → log ≡ all_copies (printed_combined start.entries [] (combined_copies [] copies))
-    → PrintsCombinedToEnd start events log
+    → log ≡ all_copies (printed_combined start.entries [] (combined_copies_holding limit [] copies))
+    → PrintsHoldingToEnd limit start events log
 unfolding heard_copies heard_by
-printed_to_end start events copies log heard printed = record {
+printed_to_end limit start events copies log heard printed = record {
   locks = heard.locks;
   now = heard.now;
   stands = heard.stands;
   printed = printed
-      ∙ ap (λ all. all_copies (printed_combined start.entries [] (combined_copies [] all)))
+      ∙ ap (λ all. all_copies (printed_combined start.entries []
+      (combined_copies_holding limit [] all)))
       heard.heard;
 }
 
 -- and nothing was printed before the last of the elements
-together_before : {M : Type 0} (content : M → List MemoryEntry) (old : CombiningReceiver M)
+together_before : (limit : ℕ) {M : Type 0} (content : M → List MemoryEntry)
+    (old : CombiningReceiver M)
     (held : Held) (taker : CombinedTaker) (bits : List Bool) (n : ℕ) (answer : Option Over)
     → n ≤ length bits → Hears old.synchroniser old.taker (take n bits) held taker answer
-    → HandsOutNoneBeforeBy (combined_kind content) old bits n
-together_before content old held taker bits n answer within hears start events log s k lt =
+    → HandsOutNoneBeforeBy (combined_kind_holding limit content) old bits n
+together_before limit content old held taker bits n answer within hears start events log s k lt =
     let first = first_setting start in
     let before = elements_among events in
     let forces = settings first events in
@@ -105,11 +111,11 @@ together_before content old held taker bits n answer within hears start events l
     s.copies) (sym (bits_of-more events some)) ended in
     let t = subst (λ t. HaveBeenHeard first (elements_among (events ++ elements some)) t s.copies)
     (sym (settings-more first (hearer_in old) events some s.force)) h in
-    printed_of_heard start (events ++ elements some) s.copies log t s.judged.printed
+    printed_of_heard limit start (events ++ elements some) s.copies log t s.judged.printed
 
 -- A part of all packed elements from a place on was heard: what is over with the last of them is
 -- awaited, and nothing was printed before it.
-module _ {M : Type 0} (content : M → List MemoryEntry) (whole old : CombiningReceiver M)
+module _ (limit : ℕ) {M : Type 0} (content : M → List MemoryEntry) (whole old : CombiningReceiver M)
     (all : List Bool) (numbers : List ℕ) (from count : ℕ) (new : Held) (after : CombinedTaker)
     (heard : ℕ × Option Over) (view : old ≡ whole)
     (is : all ≡ take (length all) (elements_of_numbers numbers)) (room : from ≤ length all)
@@ -122,15 +128,18 @@ module _ {M : Type 0} (content : M → List MemoryEntry) (whole old : CombiningR
       ∙ ap (take heard.0) (ap (packed_part numbers from) rest ∙ all_is all numbers from is room) in
       subst (λ bits. Hears old.synchroniser old.taker bits new after heard.1) same part.hears
 
-  pub part_together : HearsUpToBy (combined_kind content) (AwaitsAfterAll content) whole
+  pub part_together : HearsUpToBy (combined_kind_holding limit content)
+      (AwaitsAfterAllHolding limit content) whole
       (with_taker old new after) (take heard.0 (drop from all)) heard.1
   part_together start events log s =
-      together_on content old new after (take heard.0 (drop from all)) heard.1 hears_part start
-      events log (subst (λ r. StandsAfterAll content start r events log) (sym view) s)
+      together_on limit content old new after
+      (take heard.0 (drop from all)) heard.1 hears_part start
+      events log (subst (λ r. StandsAfterAllHolding limit content start r events log) (sym view) s)
 
-  pub none_before_together : HandsOutNoneBeforeBy (combined_kind content) whole (drop from all)
+  pub none_before_together : HandsOutNoneBeforeBy (combined_kind_holding limit content) whole
+      (drop from all)
       heard.0
   none_before_together start events log s k lt =
-      together_before content old new after (drop from all) heard.0 heard.1
+      together_before limit content old new after (drop from all) heard.0 heard.1
       (omega (arith, part.within, rest, length-drop from all)) hears_part start events log
-      (subst (λ r. StandsAfterAll content start r events log) (sym view) s) k lt
+      (subst (λ r. StandsAfterAllHolding limit content start r events log) (sym view) s) k lt

@@ -10,8 +10,8 @@ use Rattle.nx_envelope.specs.Copies.{errors_of}
 use Rattle.nx_copies.specs.copies.FoundCopies.{TaggedCopy}
 use Rattle.nx_copies.specs.copies.Printing.{has_fewer_errors, is_better, is_full}
 use Rattle.nx_combine.specs.CopyPositions.{HeardCopy}
-use Rattle.nx_combine.specs.Families.{CombinedCopy, Family, alone, combined, combined_at, combined_copy}
-use Rattle.nx_combine.specs.Families.{given_by, has_family, index_joined}
+use Rattle.nx_combine.specs.Families.{CombinedCopy, Family, alone, combined, combined_at, combined_copy_holding}
+use Rattle.nx_combine.specs.Families.{given_by, has_family, index_joined_holding}
 use Rattle.nx_combine.specs.Families.{joined_by, together}
 use Rattle.nx_combine.specs.Joining.{joined, joined_position}
 use Rattle.nx_combine.specs.Laws.{AreAllTakenAlike, AreTakenAlike, joined_where}
@@ -62,15 +62,15 @@ either : (heard : HeardCopy) (one other : CombinedCopy) (b : Bool)
 either heard one other true first second = first
 either heard one other false first second = second
 
-pub isnt_worse : (families : List Family) (heard : HeardCopy)
-    → is_better heard.copy (combined_copy families heard).copy ≡ false
-unfolding combined_copy
-isnt_worse families heard =
+pub isnt_worse : (limit : ℕ) (families : List Family) (heard : HeardCopy)
+    → is_better heard.copy (combined_copy_holding limit families heard).copy ≡ false
+unfolding combined_copy_holding
+isnt_worse limit families heard =
     either heard
-    (option_map_or (combined_at families heard) (index_joined families heard)
+    (option_map_or (combined_at families heard) (index_joined_holding limit families heard)
     (alone (Some (length families)) heard))
     (alone None heard) (has_family heard)
-    (joined_isnt_worse families heard (length families) (index_joined families heard))
+    (joined_isnt_worse families heard (length families) (index_joined_holding limit families heard))
     (better_than_itself heard.copy)
 
 -- a combination that another list doesn't take otherwise stays

@@ -48,6 +48,7 @@ use Rattle.nx_locks.specs.Run.{IsReportOfLines, ShowsLocks}
 use Rattle.nx_locks.specs.private.ReportWriter.{HasClosed, HasFew}
 use Rattle.nx_receiver.specs.air_file_runs.Listen.{air_fault}
 use Rattle.nx_locks.specs.declared.lock_report.LocksReport.{LocksReport}
+use Rattle.nx_receiver.proofs.lemmas.listening.Runs.{elements-fewer}
 
 -- lines have fewer elements of channel 0 than bytes
 some_elements : (channel : Channel) (bits : List Bool)
@@ -113,19 +114,6 @@ lines-fewer (line ∷ lines) =
       length-append (line_bytes line)
           (file_of lines),
     )
-
-elements-fewer : (line : Line) → length (elements_of line) ≤ length (line_bytes line)
-elements-fewer (moment n) = omega arith
-elements-fewer (elements mark bits) =
-    omega (
-      arith,
-      longer-line mark bits,
-      length-append (spelling (elements mark bits)) (10 ∷ []),
-    )
-elements-fewer (refuse_station mark letter) = omega arith
-elements-fewer (accept_station mark letter) = omega arith
-elements-fewer (refuse_subject mark letter) = omega arith
-elements-fewer (accept_subject mark letter) = omega arith
 
 -- a file within its limit has no more elements than a counter counts
 pub has-few : {R : Type 0} (remaining : R → Option (List ℕ)) (first : Option (List ℕ))

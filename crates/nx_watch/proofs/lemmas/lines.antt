@@ -4,6 +4,7 @@ pub mod AnyLine
 pub mod AnyLines
 pub mod Law
 pub mod Reading
+pub mod Reasons
 pub mod Run
 pub mod Scanning
 pub mod Starting

@@ -6,6 +6,7 @@ pub mod Keeping
 pub mod Opening
 pub mod Remembering
 pub mod Stamping
+pub mod Stamps
 pub mod Start
 pub mod LoggingListener
 pub mod Cutting

@@ -1,13 +1,14 @@
 //! A log is opened: what it remembers is taken, and what is cut of it is told.
 
-ghost use Rattle.std.specs.Prelude.{◌≡◌, ◌⊎◌, List, ℕ, IfErr, IfOk, Option};
+ghost use Rattle.std.specs.Prelude.{◌≡◌, ◌⊎◌, ◌∷◌, List, ℕ, IfErr, IfOk, Option};
 ghost use Rattle.nx_kept.specs.Disk.{OnlyReads};
 ghost use Rattle.nx_kept.specs.Kept.{IsDamaged, IsKeptLog, StandsFor, first_byte};
 ghost use Rattle.nx_kept.specs.Open.{HasCause, KeepsRecords};
 ghost use Rattle.nx_kept.specs.declared.fault.OpenFault.TheVariants as why;
 ghost use Rattle.nx_log.specs.Entries.{IsWholeEntry};
 ghost use Rattle.nx_watch.specs.Watch.{FailsWithin, longest_entry};
-ghost use Rattle.nx_watch.specs.CutTold.{TellsOfSomeCut};
+ghost use Rattle.nx_watch.specs.CutTold.{AreHeads, TellsOfSomeCut, cut_told};
+ghost use Rattle.nx_watch.specs.Stamp.{note};
 ghost use Rattle.nx_watch.specs.Stamps.{notes_of};
 ghost use Rattle.nx_watch.specs.ToldFirst.{TellsBeforeChange, ToldBeforeCut};
 ghost use Rattle.nx_watch.specs.private.Cutting.{HasToldCut, HearsOfCut, OpensLog, TakesEntry, TellsMore};
@@ -169,7 +170,23 @@ impl<'a, D, F: Write> RecordTaker<D> for LogOpening<'a, D, F> {
 
     /// What is cut is no entry that counts, so nothing is remembered of it.
     fn hear_of_cut(&mut self, file: &D, line: u64, bytes: &[u8]) {
-        tell_of_cut(line, bytes, self.notices);
-        self.cuts.note(file, &*self.notices);
+        tell_and_note(file, line, bytes, self.notices, self.cuts);
     }
+}
+
+/// Tells that these bytes are cut, which begin on this line of the log. Then it notes how the file
+/// stands, and the notices, with all of that told.
+fn tell_and_note<D, F: Write>(
+    file: &D,
+    line: u64,
+    bytes: &[u8],
+    notices: &mut Counting<F>,
+    cuts: &mut CutNotes<D, Counting<F>>,
+)
+    ensures told { (heads : List (List ℕ)) × AreHeads bytes.now heads
+        × TellsMore F.contents notices.old notices.new (cut_told line bytes.now heads) }
+    ensures noted { notes_of cuts.new ≡ note file.now notices.new ∷ notes_of cuts.old }
+{
+    tell_of_cut(line, bytes, notices);
+    cuts.note(file, &*notices);
 }

@@ -19,15 +19,19 @@ use Rattle.nx_copies.proofs.lemmas.locks.Found.{IsCopyIn, one_told}
 use Rattle.nx_copies.proofs.lemmas.locks.Texts.{GoesOnAs, goes_on_behind}
 use Rattle.nx_copies.proofs.lemmas.printing.Logged.{bits_of-append, setting_at-more}
 use Rattle.nx_copies.proofs.lemmas.printing.Logged as logged
-use Rattle.nx_combine.specs.CombinedPrinting.{HasPrintedCombined, PrintsCombinedToEnd, combined}
+use Rattle.nx_combine.specs.CombinedPrinting.{HasPrintedHolding, PrintsHoldingToEnd, combined}
+use Rattle.nx_combine.specs.CombinedPrinting.{combined_holding}
 use Rattle.nx_combine.specs.CombinedPrinting.{entry_made_combined, if_printed_combined}
-use Rattle.nx_combine.specs.CombinedPrinting.{printed_combined, printed_of_placed}
+use Rattle.nx_combine.specs.CombinedPrinting.{printed_combined, printed_of_placed_holding}
 use Rattle.nx_combine.specs.CopyPositions.{HeardCopy, PlacedCopy, ended_placed}
 use Rattle.nx_combine.specs.CopyPositions.{heard_copies, lock_bytes, past_placed}
 use Rattle.nx_combine.specs.CopyPositions.{placed_to_end, standing_placed}
-use Rattle.nx_combine.specs.Families.{CombinedCopy, Family, combined_copies, combined_copy}
-use Rattle.nx_combine.specs.Families.{alone, combined as together_of, combined_at, families_after}
-use Rattle.nx_combine.specs.Families.{given_by, has_family, index_joined, joined_by, together}
+use Rattle.nx_combine.specs.Families.{CombinedCopy, Family, combined_copies_holding}
+use Rattle.nx_combine.specs.Families.{combined_copy_holding}
+use Rattle.nx_combine.specs.Families.{alone, combined as together_of, combined_at}
+use Rattle.nx_combine.specs.Families.{families_after_holding}
+use Rattle.nx_combine.specs.Families.{given_by, has_family, index_joined_holding, joined_by}
+use Rattle.nx_combine.specs.Families.{most_families, together}
 use Rattle.std.specs.Prelude.{slice_get}
 use Rattle.std.specs.Option.{option_map_or}
 use Rattle.nx_code.specs.Reading.{Reception}
@@ -40,17 +44,23 @@ use Rattle.nx_combine.specs.private.laws.Heard.{found-ended, found_of}
 use Rattle.nx_combine.specs.private.laws.PlacedGrow.{placed_go_on}
 
 -- combined copies of more copies come behind those of the first
-combined-on : (families : List Family) (xs ys : List HeardCopy)
-    → GoesOnAs (combined_copies families xs) (combined_copies families (xs ++ ys))
-unfolding combined_copies
-combined-on families [] ys = record { rest = combined_copies families ys; whole = refl }
-combined-on families (x ∷ xs) ys =
-    goes_on_behind (if_selected x) (combined_copies (families_after families x) xs) _
-    (combined-on (families_after families x) xs ys)
+combined-on : (limit : ℕ) (families : List Family) (xs ys : List HeardCopy)
+    → GoesOnAs (combined_copies_holding limit families xs)
+    (combined_copies_holding limit families (xs ++ ys))
+unfolding combined_copies_holding
+combined-on limit families [] ys = record {
+  rest =
+      combined_copies_holding limit families ys;
+  whole = refl;
+}
+combined-on limit families (x ∷ xs) ys =
+    goes_on_behind (if_selected x) (combined_copies_holding limit
+    (families_after_holding limit families x) xs) _
+    (combined-on limit (families_after_holding limit families x) xs ys)
   where
     if_selected : HeardCopy → List CombinedCopy
     if_selected heard =
-        cond heard.copy.selected (combined_copy families heard ∷ []) []
+        cond heard.copy.selected (combined_copy_holding limit families heard ∷ []) []
 
 -- and what is printed of more combined copies
 printed-on : (entries : List MemoryEntry) (before xs ys : List CombinedCopy)
@@ -95,10 +105,11 @@ unfolding heard_copies
 heard-append first xs before later = map-append _ before later
 
 -- more copies, found behind others, add to what is printed
-printed_of-on : (start : Start) (xs ys : List Event) (before later : List PlacedCopy)
+printed_of-on : (limit : ℕ) (start : Start) (xs ys : List Event) (before later : List PlacedCopy)
     → GoesOnAs before later → All (PlacedIn (length (elements_among xs))) before
-    → GoesOnAs (printed_of_placed start xs before) (printed_of_placed start (xs ++ ys) later)
-printed_of-on start xs ys before later g all =
+    → GoesOnAs (printed_of_placed_holding limit start xs before)
+    (printed_of_placed_holding limit start (xs ++ ys) later)
+printed_of-on limit start xs ys before later g all =
     let first = first_setting start in
     let heard = heard_copies first xs before in
     let more = heard_copies first (xs ++ ys) g.rest in
@@ -106,10 +117,12 @@ printed_of-on start xs ys before later g all =
     ap (heard_copies first (xs ++ ys)) g.whole
     ∙ heard-append first (xs ++ ys) before g.rest
     ∙ ap (λ hs. hs ++ more) (heard-more first xs ys before all) in
-    let combined = combined-on [] heard more in
-    let printed : GoesOnAs (printed_combined start.entries [] (combined_copies [] heard))
-    (printed_combined start.entries [] (combined_copies [] (heard ++ more))) =
-    rw combined.whole (printed-on start.entries [] (combined_copies [] heard) combined.rest) in
+    let combined = combined-on limit [] heard more in
+    let printed : GoesOnAs (printed_combined start.entries []
+    (combined_copies_holding limit [] heard))
+    (printed_combined start.entries [] (combined_copies_holding limit [] (heard ++ more))) =
+    rw combined.whole (printed-on start.entries []
+    (combined_copies_holding limit [] heard) combined.rest) in
     map-on (λ (one : CombinedCopy). one.copy) _ _ (rw parts printed)
 
 -- so each stands at one of the bits
@@ -145,10 +158,10 @@ unfolding ended_placed placed_to_end
 end_adds bits locks now = goes_on_behind (past_placed bits locks) _ _ (standing-on bits now)
 
 -- more events change nothing that was printed
-stays : (start : Start) (xs ys : List Event) (log later : List TaggedCopy)
-    → HasPrintedCombined start xs log → HasPrintedCombined start (xs ++ ys) later
+stays : (limit : ℕ) (start : Start) (xs ys : List Event) (log later : List TaggedCopy)
+    → HasPrintedHolding limit start xs log → HasPrintedHolding limit start (xs ++ ys) later
     → (rest : List TaggedCopy) × (later ≡ log ++ rest)
-stays start xs ys log later h j =
+stays limit start xs ys log later h j =
     let now : IsNow (elements_among xs ++ elements_among ys) j.locks j.now =
     subst (λ (bits : List Bool). IsNow bits j.locks j.now) (bits_of-append xs ys) j.stands in
     let found : GoesOnAs (ended_placed (elements_among xs) h.locks h.now)
@@ -157,58 +170,63 @@ stays start xs ys log later h j =
     (ended_placed bits j.locks j.now)) (sym (bits_of-append xs ys))
     (placed_go_on (elements_among xs) (elements_among ys) h.locks j.locks h.now j.now h.stands
     now) in
-    let on = printed_of-on start xs ys _ _ found
+    let on = printed_of-on limit start xs ys _ _ found
     (ended_in_bits (elements_among xs) h.locks h.now h.stands) in
     (on.rest, j.printed ∙ on.whole ∙ ap (λ l. l ++ on.rest) (sym h.printed))
 
-stays-to_end : (start : Start) (events : List Event) (log whole : List TaggedCopy)
-    → HasPrintedCombined start events log → PrintsCombinedToEnd start events whole
+stays-to_end : (limit : ℕ) (start : Start) (events : List Event) (log whole : List TaggedCopy)
+    → HasPrintedHolding limit start events log → PrintsHoldingToEnd limit start events whole
     → (rest : List TaggedCopy) × (whole ≡ log ++ rest)
-stays-to_end start events log whole h j =
+stays-to_end limit start events log whole h j =
     let bits = elements_among events in
     let one : ended_placed bits h.locks h.now ≡ ended_placed bits j.locks j.now =
     one_told (ended_placed bits) bits h.locks j.locks h.now j.now h.stands j.stands in
-    let on = printed_of-on start events [] (ended_placed bits j.locks j.now)
+    let on = printed_of-on limit start events [] (ended_placed bits j.locks j.now)
     (placed_to_end bits j.locks j.now) (end_adds bits j.locks j.now)
     (ended_in_bits bits j.locks j.now j.stands) in
     let same : events ++ [] ≡ events = append-nil events in (
       on.rest,
       j.printed
-          ∙ ap (λ all. printed_of_placed start all (placed_to_end bits j.locks j.now)) (sym same)
+          ∙ ap (λ all. printed_of_placed_holding limit start all (placed_to_end bits j.locks j.now))
+          (sym same)
           ∙ on.whole ∙ ap (λ l. l ++ on.rest)
-          (sym (h.printed ∙ ap (printed_of_placed start events) one)),
+          (sym (h.printed ∙ ap (printed_of_placed_holding limit start events) one)),
     )
 
 -- there is one log
-one-printed : (start : Start) (events : List Event) (log other : List TaggedCopy)
-    → HasPrintedCombined start events log → HasPrintedCombined start events other → log ≡ other
-one-printed start events log other h j =
+one-printed : (limit : ℕ) (start : Start) (events : List Event) (log other : List TaggedCopy)
+    → HasPrintedHolding limit start events log → HasPrintedHolding limit start events other → log
+    ≡ other
+one-printed limit start events log other h j =
     let bits = elements_among events in
-    h.printed ∙ ap (printed_of_placed start events)
+    h.printed ∙ ap (printed_of_placed_holding limit start events)
     (one_told (ended_placed bits) bits h.locks j.locks h.now j.now h.stands j.stands)
     ∙ sym j.printed
 
-one-to_end : (start : Start) (events : List Event) (log other : List TaggedCopy)
-    → PrintsCombinedToEnd start events log → PrintsCombinedToEnd start events other → log ≡ other
-one-to_end start events log other h j =
+one-to_end : (limit : ℕ) (start : Start) (events : List Event) (log other : List TaggedCopy)
+    → PrintsHoldingToEnd limit start events log → PrintsHoldingToEnd limit start events other → log
+    ≡ other
+one-to_end limit start events log other h j =
     let bits = elements_among events in
-    h.printed ∙ ap (printed_of_placed start events)
+    h.printed ∙ ap (printed_of_placed_holding limit start events)
     (one_told (placed_to_end bits) bits h.locks j.locks h.now j.now h.stands j.stands)
     ∙ sym j.printed
 
-some-printed : (start : Start) (events : List Event)
-    → (log : List TaggedCopy) × HasPrintedCombined start events log
-some-printed start events =
+some-printed : (limit : ℕ) (start : Start) (events : List Event)
+    → (log : List TaggedCopy) × HasPrintedHolding limit start events log
+some-printed limit start events =
     let s = standing_after (elements_among events) in (
-      printed_of_placed start events (ended_placed (elements_among events) s.locks s.now),
+      printed_of_placed_holding limit start events
+          (ended_placed (elements_among events) s.locks s.now),
       record { locks = s.locks; now = s.now; stands = s.stands; printed = refl },
     )
 
-some-to_end : (start : Start) (events : List Event)
-    → (log : List TaggedCopy) × PrintsCombinedToEnd start events log
-some-to_end start events =
+some-to_end : (limit : ℕ) (start : Start) (events : List Event)
+    → (log : List TaggedCopy) × PrintsHoldingToEnd limit start events log
+some-to_end limit start events =
     let s = standing_after (elements_among events) in (
-      printed_of_placed start events (placed_to_end (elements_among events) s.locks s.now),
+      printed_of_placed_holding limit start events
+          (placed_to_end (elements_among events) s.locks s.now),
       record { locks = s.locks; now = s.now; stands = s.stands; printed = refl },
     )
 
@@ -219,10 +237,10 @@ none-placed (c ∷ cs) all =
     let here = All-head (PlacedIn 0) c cs all in
     absurd (omega (arith, here.1))
 
-no-events : (start : Start) → HasPrintedCombined start [] []
-unfolding elements_among heard_copies combined_copies printed_combined
-no-events start =
-    let log = some-printed start [] in
+no-events : (limit : ℕ) (start : Start) → HasPrintedHolding limit start [] []
+unfolding elements_among heard_copies combined_copies_holding printed_combined
+no-events limit start =
+    let log = some-printed limit start [] in
     let h = log.1 in
     let none : ended_placed [] h.locks h.now ≡ [] =
     none-placed _ (ended_in_bits [] h.locks h.now h.stands) in
@@ -230,14 +248,14 @@ no-events start =
       locks = h.locks;
       now = h.now;
       stands = h.stands;
-      printed = sym (ap (printed_of_placed start []) none);
+      printed = sym (ap (printed_of_placed_holding limit start []) none);
     }
 
 -- events without elements bring no copy to an end
-no-elements : (start : Start) (xs ys : List Event) (log : List TaggedCopy)
-    → HasPrintedCombined start xs log → elements_among ys ≡ []
-    → HasPrintedCombined start (xs ++ ys) log
-no-elements start xs ys log h none =
+no-elements : (limit : ℕ) (start : Start) (xs ys : List Event) (log : List TaggedCopy)
+    → HasPrintedHolding limit start xs log → elements_among ys ≡ []
+    → HasPrintedHolding limit start (xs ++ ys) log
+no-elements limit start xs ys log h none =
     let bits = elements_among xs in
     let copies = ended_placed bits h.locks h.now in
     let same : elements_among (xs ++ ys) ≡ bits =
@@ -248,11 +266,12 @@ no-elements start xs ys log h none =
       stands = subst (λ (all : List Bool). IsNow all h.locks h.now) (sym same) h.stands;
       printed = h.printed
           ∙ ap (λ heard. map (λ (one : CombinedCopy). one.copy)
-          (printed_combined start.entries [] (combined_copies [] heard)))
+          (printed_combined start.entries [] (combined_copies_holding limit [] heard)))
           (sym (heard-more (first_setting start) xs ys copies
           (ended_in_bits bits h.locks h.now h.stands)))
           ∙ ap (λ (all : List Bool).
-          printed_of_placed start (xs ++ ys) (ended_placed all h.locks h.now)) (sym same);
+          printed_of_placed_holding limit start (xs ++ ys) (ended_placed all h.locks h.now))
+          (sym same);
     }
 
 -- a combined copy has the moment of the copy that joined last
@@ -279,15 +298,15 @@ chosen-moment families heard None = refl
 chosen-moment families heard (Some index) =
     joined-moment heard (length families - 1 - index) (slice_get families index)
 
-copy-moment : (families : List Family) (heard : HeardCopy)
-    → (combined_copy families heard).copy.moment ≡ heard.copy.moment
-unfolding combined_copy
-copy-moment families heard = go (has_family heard)
+copy-moment : (limit : ℕ) (families : List Family) (heard : HeardCopy)
+    → (combined_copy_holding limit families heard).copy.moment ≡ heard.copy.moment
+unfolding combined_copy_holding
+copy-moment limit families heard = go (has_family heard)
   where
     go : (b : Bool) → (cond b (option_map_or (combined_at families heard)
-        (index_joined families heard) (alone (Some (length families)) heard))
+        (index_joined_holding limit families heard) (alone (Some (length families)) heard))
         (alone None heard)).copy.moment ≡ heard.copy.moment
-    go true = chosen-moment families heard (index_joined families heard)
+    go true = chosen-moment families heard (index_joined_holding limit families heard)
     go false = refl
 
 abbrev IsHeardUpTo : ℕ → HeardCopy → Type 0
@@ -311,16 +330,18 @@ one-up_to : (last : ℕ) (shown : Bool) (one : CombinedCopy) → IsCombinedUpTo 
 one-up_to last true one h = All-cons (IsCombinedUpTo last) one [] h (All-nil (IsCombinedUpTo last))
 one-up_to last false one h = All-nil (IsCombinedUpTo last)
 
-copies-up_to : (last : ℕ) (families : List Family) (copies : List HeardCopy)
-    → All (IsHeardUpTo last) copies → All (IsCombinedUpTo last) (combined_copies families copies)
-unfolding combined_copies
-copies-up_to last families [] h = All-nil (IsCombinedUpTo last)
-copies-up_to last families (heard ∷ copies) h =
-    All-append (IsCombinedUpTo last) _ (combined_copies (families_after families heard) copies)
-    (one-up_to last heard.copy.selected (combined_copy families heard)
-    (subst (λ n. n ≤ last) (sym (copy-moment families heard))
+copies-up_to : (limit : ℕ) (last : ℕ) (families : List Family) (copies : List HeardCopy)
+    → All (IsHeardUpTo last) copies → All (IsCombinedUpTo last)
+    (combined_copies_holding limit families copies)
+unfolding combined_copies_holding
+copies-up_to limit last families [] h = All-nil (IsCombinedUpTo last)
+copies-up_to limit last families (heard ∷ copies) h =
+    All-append (IsCombinedUpTo last) _ (combined_copies_holding limit
+    (families_after_holding limit families heard) copies)
+    (one-up_to last heard.copy.selected (combined_copy_holding limit families heard)
+    (subst (λ n. n ≤ last) (sym (copy-moment limit families heard))
     (All-head (IsHeardUpTo last) heard copies h)))
-    (copies-up_to last (families_after families heard) copies
+    (copies-up_to limit last (families_after_holding limit families heard) copies
     (All-tail (IsHeardUpTo last) heard copies h))
 
 printed-up_to : (last : ℕ) (entries : List MemoryEntry) (before copies : List CombinedCopy)
@@ -339,26 +360,30 @@ printed-up_to last entries before (one ∷ copies) h =
     (All-tail (IsCombinedUpTo last) one copies h))
 
 -- no moment of what is printed is past all that were given
-up_to : (start : Start) (events : List Event) (log : List TaggedCopy) (last : ℕ)
-    → start.moment ≤ last → All (IsUpTo last) events → PrintsCombinedToEnd start events log
+up_to : (limit : ℕ) (start : Start) (events : List Event) (log : List TaggedCopy) (last : ℕ)
+    → start.moment ≤ last → All (IsUpTo last) events → PrintsHoldingToEnd limit start events log
     → All (λ (copy : TaggedCopy). copy.moment ≤ last) log
-up_to start events log last h k p =
+up_to limit start events log last h k p =
     let first = first_setting start in
     subst (λ (l : List TaggedCopy). All (IsCopyUpTo last) l) (sym p.printed)
     (All-map (IsCopyUpTo last) (λ (one : CombinedCopy). one.copy) _
     (printed-up_to last start.entries [] _
-    (copies-up_to last [] _
+    (copies-up_to limit last [] _
     (heard-up_to last first events _ h (settings-up_to last first events h k)))))
 
-pub combined-laws : IsPrinting combined
-combined-laws = record {
-  some = some-printed;
-  one = one-printed;
-  some_to_end = some-to_end;
-  one_to_end = one-to_end;
-  none = no-events;
-  no_elements = no-elements;
-  stays = stays;
-  stays_to_end = stays-to_end;
-  up_to = up_to;
+pub holding-laws : (limit : ℕ) → IsPrinting (combined_holding limit)
+holding-laws limit = record {
+  some = some-printed limit;
+  one = one-printed limit;
+  some_to_end = some-to_end limit;
+  one_to_end = one-to_end limit;
+  none = no-events limit;
+  no_elements = no-elements limit;
+  stays = stays limit;
+  stays_to_end = stays-to_end limit;
+  up_to = up_to limit;
 }
+
+-- so where 200 are held
+pub combined-laws : IsPrinting combined
+combined-laws = holding-laws most_families

@@ -57,9 +57,3 @@ returns-else-printed-clause-entered g c entries h =
     content_stays entries _ _ h
     (made_false entries copy _ _ (printed_as entries _ copy _ h printed)
     (ap (λ b. c.if-selected.printed && b && not (head.identity.number == 0)) good) none)
-
-pub enter-requires-clause-numbered : goal.enter-requires-clause-numbered
-enter-requires-clause-numbered g c = search rules
-
-pub enter-requires-clause-unknown : goal.enter-requires-clause-unknown
-enter-requires-clause-unknown g c = search rules

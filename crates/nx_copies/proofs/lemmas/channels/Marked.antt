@@ -92,7 +92,7 @@ one-begins (x ∷ front) more (y ∷ other) rest e =
       | inr on ↦ inr (record { rest = on.rest; whole = ap₂ (λ a as'. a ∷ as') head on.whole })
     ]
 
-no-length : {A : Type 0} (xs : List A) → length xs ≡ 0 → xs ≡ []
+pub no-length : {A : Type 0} (xs : List A) → length xs ≡ 0 → xs ≡ []
 no-length [] e = refl
 no-length (x ∷ xs) e = absurd (omega (arith, e))
 

@@ -29,7 +29,8 @@ use Rattle.nx_copies.proofs.lemmas.locks.Growing.{past_copies-more, whole_heard}
 use Rattle.nx_copies.proofs.lemmas.locks.Moves.{Moves, ends_word, finds, goes_on, hunts_on, one_move}
 use Rattle.nx_copies.proofs.lemmas.locks.Moves.{releases}
 use Rattle.nx_copies.proofs.lemmas.locks.Texts.{lock_text-more, positions-same}
-use Rattle.nx_copies.proofs.lemmas.printing.Logged.{ended_placed, past_is}
+use Rattle.nx_copies.proofs.lemmas.printing.Logged.{ended_placed}
+use Rattle.nx_copies.proofs.lemmas.locks.Told.{past_now}
 use Rattle.nx_copies.proofs.lemmas.copy_hearer.Texts.{tag-later}
 
 -- words that are the same up to a word leave the reader where it stands
@@ -114,7 +115,7 @@ module _ (first : Setting) (bits : List Bool) (b : Bool) (settings : List Settin
       (copies_by first settings (ended_so_far bits locks now))
   unfolding ended_so_far
   keeps_text reader kept locks now next is on same reads k =
-      let past = past_is bits locks now is in
+      let past = past_now bits locks now is in
       record {
         locks = locks;
         now = next;

@@ -35,7 +35,7 @@ use Rattle.nx_copies.proofs.lemmas.emissions.Texts.{on_air, on_air_before, on_ai
 use Rattle.nx_copies.proofs.lemmas.emissions.Texts.{positions-before, SpelledAt, spelled_at, lines_at}
 
 -- the word of a slot
-word_of-heard_in : (heard : List ℕ) (i : ℕ) → word_of heard i ≡ heard_in heard (96 + i)
+pub word_of-heard_in : (heard : List ℕ) (i : ℕ) → word_of heard i ≡ heard_in heard (96 + i)
 word_of-heard_in heard i = let e : 96 + i - 96 ≡ i = omega arith in
     ap (λ n. get_or heard n 0) (sym e)
 

@@ -132,7 +132,7 @@ line_errors (b ∷ line) h =
     ∙ ap₂ ◌+◌ (no_star b (All-head IsLineByte b line h))
     (line_errors line (All-tail IsLineByte b line h))
 
-text_errors : (lines : List (List ℕ)) → All IsMessageLine lines → errors_of (text_of lines) ≡ 0
+pub text_errors : (lines : List (List ℕ)) → All IsMessageLine lines → errors_of (text_of lines) ≡ 0
 text_errors [] h = refl
 text_errors (line ∷ lines) h =
     errors-append (line ++ 10 ∷ []) (text_of lines)
@@ -152,7 +152,7 @@ sending_errors bits parts sending cut s =
 -- ---- the lock holds
 
 -- between a time when a lock stands and a later one when it stands still, it stands
-stands_between : (bits more rest : List Bool) (locks : List Lock) (p t : ℕ)
+pub stands_between : (bits more rest : List Bool) (locks : List Lock) (p t : ℕ)
     → IsLocked bits locks p t
     → IsLocked ((bits ++ more) ++ rest) locks p t → IsLocked (bits ++ more) locks p t
 stands_between bits more rest locks p t before after = record {

@@ -93,7 +93,7 @@ unfolding Past
 past_of bits ls ks p same past = (p, past)
 past_of bits (lock ∷ ls) ks p (newer e) past = past_of bits ls ks lock.from e past.1
 
-past_now : (bits : List Bool) (locks : List Lock) (now : Now) → IsNow bits locks now
+pub past_now : (bits : List Bool) (locks : List Lock) (now : Now) → IsNow bits locks now
     → (p : ℕ) × Past bits locks p
 past_now bits locks (hunting p) is = (p, is.past)
 past_now bits locks (locked p t) is = (p, is.past)

@@ -22,6 +22,7 @@ use Rattle.nx_copies.proofs.lemmas.locks.Texts.{GoesOnAs}
 use Rattle.nx_copies.proofs.lemmas.locks.Found.{IsCopyIn, text_placed, ended_in_placed, all_in_placed}
 use Rattle.nx_copies.proofs.lemmas.locks.Found.{all_in-parts, one_told}
 use Rattle.nx_copies.proofs.lemmas.locks.Growing.{ended_go_on, ended_in-nil, whole_heard}
+use Rattle.nx_copies.proofs.lemmas.locks.Told.{past_now}
 
 pub bits_of-append : (xs ys : List Event)
     → elements_among (xs ++ ys) ≡ elements_among xs ++ elements_among ys
@@ -103,17 +104,11 @@ standing_placed bits locks (locked p t) is =
     (ended_in_placed t (t + 7 * whole_words bits t) text
     (text_placed _ _ t (whole_words bits t)))
 
--- the past of what stands now
-pub past_is : (bits : List Bool) (locks : List Lock) (now : Now) → IsNow bits locks now
-    → (p : ℕ) × Past bits locks p
-past_is bits locks (hunting p) is = (p, is.past)
-past_is bits locks (locked p t) is = (p, is.past)
-
 pub ended_placed : (bits : List Bool) (locks : List Lock) (now : Now) → IsNow bits locks now
     → All (IsCopyIn 0 (length bits)) (ended_so_far bits locks now)
 unfolding ended_so_far
 ended_placed bits locks now is =
-    let past = past_is bits locks now is in
+    let past = past_now bits locks now is in
     All-append (IsCopyIn 0 (length bits)) (past_copies bits locks)
     (ended_in (standing_text bits now)) (past_placed bits locks past.0 past.1)
     (standing_placed bits locks now is)

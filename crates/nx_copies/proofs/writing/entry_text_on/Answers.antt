@@ -1,4 +1,3 @@
-use Rattle.std.proofs.Common.{rules}
 use Rattle.std.proofs.Common.{Result, Ok, Err, OnOk, IfErr, MatchResult, subst, sym}
 use Rattle.nx_copies.specs.copies.Log.{IsEntry}
 use Rattle.nx_copies.specs.copies.FoundCopies.{copy_of}
@@ -20,6 +19,3 @@ returns-clause-written g c =
       both_ways c.write_out.result _ _ c.write_out.ensures.ok
           c.write_out.ensures.err,
     )
-
-pub returns-clause-counts : goal.returns-clause-counts
-returns-clause-counts g c = search rules

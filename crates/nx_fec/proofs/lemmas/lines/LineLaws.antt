@@ -105,7 +105,7 @@ marked-no_feed (Some channel) rest h =
     ((λ e. absurd (omega arith)), ((λ e. absurd (omega arith)), h))
 
 -- a line that names its channel has one byte more
-mark-short : (mark : Option Channel) → length (mark_bytes mark) ≤ 1
+pub mark-short : (mark : Option Channel) → length (mark_bytes mark) ≤ 1
 mark-short None = omega arith
 mark-short (Some channel) = omega arith
 

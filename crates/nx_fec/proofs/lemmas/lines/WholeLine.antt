@@ -14,6 +14,8 @@ use Rattle.nx_fec.specs.declared.air_files.lines.LineKind.{LineKind}
 use Rattle.nx_fec.specs.declared.air_files.lines.LineKind.TheVariants.{Elements, Moment}
 use Rattle.nx_fec.specs.declared.air_files.channel.Channel.{Channel}
 use Rattle.nx_fec.proofs.lemmas.packed.Packed.{digits-spelled}
+use Rattle.nx_fec.proofs.lemmas.lines.Kept.{kept-open}
+use Rattle.nx_fec.proofs.lemmas.lines.LineLaws.{mark-short}
 
 -- ---- the bytes of a line of elements
 
@@ -43,10 +45,6 @@ pub record Digits (piece : List ℕ) (mark : Option Channel) (digits : List ℕ)
   pub within : count < length digits
   pub feed : get_or digits count 0 ≡ 10
   pub are : bits ≡ map is_one (take count digits)
-
-mark-short : (mark : Option Channel) → length (mark_bytes mark) ≤ 1
-mark-short None = omega arith
-mark-short (Some channel) = omega arith
 
 -- the digits come behind two bytes, or three where a channel is named
 pub digits-behind-front : (piece : List ℕ) (mark : Option Channel) (digits : List ℕ)
@@ -179,17 +177,11 @@ takes-moment old new piece digits value count whole found within feed empty late
       room = room;
     }
 
--- a line that is open has the bytes that are kept
-pub part-open : (ended : Option LineKind) (bits : List Bool) (kept : List ℕ)
-    → line_ended ended bits ≡ None → part_of ended kept ≡ kept
-part-open None bits kept none = refl
-part-open (Some kind) bits kept none = cc
-
 -- and with them those of the front of a piece that were kept too
 pub part-more : (ended : Option LineKind) (bits : List Bool) (kept more piece part : List ℕ)
     (count fitting : ℕ) → line_ended ended bits ≡ None → kept ≡ part
     → more ≡ kept ++ take fitting piece → fitting ≤ count
     → part_of ended more ≡ part ++ take fitting (take count piece)
 part-more ended bits kept more piece part count fitting none is longer within =
-    part-open ended bits more none ∙ longer ∙ ap (λ l. l ++ take fitting piece) is
+    kept-open ended bits more none ∙ longer ∙ ap (λ l. l ++ take fitting piece) is
     ∙ ap (λ l. part ++ l) (sym (take-take fitting count piece within))

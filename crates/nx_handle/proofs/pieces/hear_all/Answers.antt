@@ -1,38 +1,45 @@
-use Rattle.std.proofs.Common.{◌≤◌, ◌<◌, ◌-◌, arith, length, take, drop, subst}
+use Rattle.std.proofs.Common.{◌≤◌, ◌<◌, ◌-◌, [], arith, length, take, drop, subst}
 use Rattle.std.proofs.lemmas.List.{length-take-le}
 use Rattle.nx_copies.specs.copies.FoundCopies.{headed_copy}
 use Rattle.nx_copies.specs.copies.Log.{IsEntry}
 use Rattle.nx_copies.specs.copies.Shares.{marked}
 use Rattle.nx_receiver.specs.Receiver.{headed_list, text_of}
+use Rattle.nx_handle.specs.CallerRoom.{IsPut, room}
 use Rattle.nx_handle.specs.Hearing.{elements_of}
 use Rattle.nx_handle.proofs.lemmas.Hearing.{has-bytes, hears-silent, hears-spelled, next-piece, none-before-piece, piece-within, silent-more}
 use Rattle.nx_handle.proofs.pieces.hear_all.Goals as goal
 use Rattle.std.proofs.Common.{ap, is_some, true}
 
-pub returns-in-Some-clause-hears : goal.returns-in-Some-clause-hears
-returns-in-Some-clause-hears c =
+pub returns-in-Some : goal.returns-in-Some
+returns-in-Some c =
     let packed = c.pack-packed.result in let call = c.next_printed-count in
     let n = call.result.0 in let xs = c.args.elements.now in let h = c.loop-heard.heard in
     let few : n ≤ length packed = omega (arith, call.ensures.within) in
     let m = c.min-end.result - h in
     let head = c.in-Some.head in
     let text = text_of call.new.self in
+    let out = c.put_entry.ensures in
     let some : 0 < length (take n (drop 0 packed)) =
     omega (arith, length-take-le n packed few, call.ensures.some (ap is_some c.in-Some.is)) in
-    hears-spelled c.args.channel c.args.receiver.now c.loop-heard.receiver call.new.self
-    (elements_of (take h xs)) (take n (drop 0 packed)) _ call.result.1 head text
-    c.spell_entry.new.bytes.items (next-piece xs h n m packed c.pack-packed.ensures few) some
-    c.in-Some.is c.loop-heard.invariant.silent
-    (subst (λ t. IsEntry (marked c.args.channel (headed_copy head t true))
-    c.spell_entry.new.bytes.items) c.text.ensures.text c.spell_entry.ensures)
-    (λ start history log s. call.ensures.stands start history log s)
-    (none-before-piece c.loop-heard.receiver packed n few
-    (λ start history log s k lt. call.ensures.first start history log s k lt))
-
-pub returns-in-Some-clause-some : goal.returns-in-Some-clause-some
-returns-in-Some-clause-some c =
-    λ is. has-bytes (marked c.args.channel (headed_copy c.in-Some.head c.text.result.now true))
-    c.spell_entry.new.bytes.items c.spell_entry.ensures
+    record {
+      text = out.bytes;
+      put = subst (λ l. IsPut out.bytes (room l c.put_entry.new.space c.put_entry.new.written))
+          c.loop-heard.invariant.same_log out.put;
+      short = out.short;
+      within = piece-within xs h n m packed c.pack-packed.ensures few c.loop-heard.invariant.within;
+      hears = hears-spelled c.args.channel c.args.receiver.now c.loop-heard.receiver call.new.self
+          (elements_of (take h xs)) (take n (drop 0 packed)) _ call.result.1 head text
+          out.bytes (next-piece xs h n m packed c.pack-packed.ensures few) some
+          c.in-Some.is c.loop-heard.invariant.silent
+          (subst (λ t. IsEntry (marked c.args.channel (headed_copy head t true)) out.bytes)
+          c.text.ensures.text out.spelled)
+          (λ start history log s. call.ensures.stands start history log s)
+          (none-before-piece c.loop-heard.receiver packed n few
+          (λ start history log s k lt. call.ensures.first start history log s k lt));
+      all = λ none. absurd (has-bytes
+          (marked c.args.channel (headed_copy head c.text.result.now true)) out.bytes out.spelled
+          none);
+    }
 
 pub loop-heard-preserved : goal.loop-heard-preserved
 loop-heard-preserved c =
@@ -42,6 +49,7 @@ loop-heard-preserved c =
     let m = c.min-end.result - h in
     let text = text_of call.new.self in record {
       within = piece-within xs h n m packed c.pack-packed.ensures few c.loop-heard.invariant.within;
+      same_log = c.loop-heard.invariant.same_log;
       silent = silent-more c.args.receiver.now c.loop-heard.receiver call.new.self
           (elements_of (take h xs)) (take n (drop 0 packed)) _ (headed_list call.result.1 text)
           (next-piece xs h n m packed c.pack-packed.ensures few)
@@ -51,7 +59,14 @@ loop-heard-preserved c =
           (λ start history log s k lt. call.ensures.first start history log s k lt));
     }
 
-pub returns-clause-hears : goal.returns-clause-hears
-returns-clause-hears c =
-    hears-silent c.args.channel c.args.receiver.now c.loop-heard.receiver _
-    c.loop-heard.invariant.silent
+pub returns : goal.returns
+returns c = record {
+  text = [];
+  put = subst (λ l. IsPut [] (room l c.put.new.space c.put.new.written))
+      c.loop-heard.invariant.same_log c.put.ensures;
+  short = omega arith;
+  within = c.loop-heard.invariant.within;
+  hears = hears-silent c.args.channel c.args.receiver.now c.loop-heard.receiver _
+      c.loop-heard.invariant.silent;
+  all = λ _. omega (arith, c.loop-heard-test.false, c.loop-heard.invariant.within);
+}

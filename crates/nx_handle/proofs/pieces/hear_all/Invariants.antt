@@ -1,4 +1,4 @@
-use Rattle.std.proofs.Common.{length, ◌-◌, ◌≤◌, take}
+use Rattle.std.proofs.Common.{length, ◌≡◌, ◌-◌, ◌≤◌, take}
 use Rattle.nx_handle.specs.Hearing.{elements_of}
 use Rattle.nx_handle.proofs.lemmas.Hearing.{HearsSilently}
 use Rattle.nx_handle.proofs.pieces.hear_all.Given as goal
@@ -6,6 +6,7 @@ use Rattle.nx_handle.proofs.pieces.hear_all.Given as goal
 abbrev pub invariant-loop-heard : goal.invariant-loop-heard
 invariant-loop-heard l = record {
   within : l.heard ≤ length l.elements;
+  same_log : l.log ≡ l.fn.log;
   silent : HearsSilently l.fn.receiver l.receiver (elements_of (take l.heard l.elements));
 }
 

@@ -7,8 +7,8 @@ pub returns : goal.returns
 returns g c = record {
   well = λ a now log outcome at answers there quiet none.
       let d = telling g.D.DiskFile g.R.Read.remaining g.W.Write.contents g.N.Write.contents a in
-      answer-told d now log at there quiet false none outcome answers;
+      answer-told d now log at there outcome answers quiet false none;
   behind_a_failed_put = λ a now log outcome at answers there quiet one.
       let d = telling g.D.DiskFile g.R.Read.remaining g.W.Write.contents g.N.Write.contents a in
-      answer-told d now log at there quiet true one outcome answers;
+      answer-told d now log at there outcome answers quiet true one;
 }

@@ -46,8 +46,9 @@ use Rattle.nx_watch.specs.Start.{is_in_order, is_last_known, is_near, passing, r
 use Rattle.nx_watch.specs.Watch.{StandsForEntries, moments_at, starts_at}
 use Rattle.nx_watch.proofs.lemmas.log.CombinedLoggable.{combined-loggable}
 use Rattle.nx_watch.proofs.lemmas.log.Loggable.{end-logged}
-use Rattle.nx_left_on.specs.Chain.{PutsBy, Watch, answered}
-use Rattle.nx_left_on.specs.Example.{IsWorkedTogether, first_moment, twice_lines_at}
+use Rattle.nx_left_on.specs.Chain.{ClocksAreNear, IsChainBy, PutsBy, Watch, answered, events_in}
+use Rattle.nx_left_on.specs.Chain.{lines_of}
+use Rattle.nx_left_on.specs.Example.{first_moment, twice_lines_at}
 use Rattle.nx_left_on.proofs.lemmas.Example.{bits-act}
 use Rattle.nx_left_on.proofs.lemmas.chains.Chains.{none-remembered}
 use Rattle.nx_left_on.proofs.lemmas.chains.Found.{begins-itself, found-placed}
@@ -388,7 +389,16 @@ first-heard =
 none-by : (n : ℕ) → AreBy n []
 none-by n channel = All-nil (λ (c : TaggedCopy). c.moment ≤ n)
 
-pub worked-together : (first second : Watch) × IsWorkedTogether first second
+pub worked-together : (first second : Watch) × IsChainBy combined [] (first ∷ second ∷ [])
+    × ClocksAreNear Zero [] (first ∷ second ∷ [])
+    × (first.moment ≡ first_moment) × (second.moment ≡ first_moment + 14400)
+    × (lines_of first ≡ twice_lines_at first.moment)
+    × (lines_of second ≡ twice_lines_at second.moment)
+    × (first.ending ≡ answered) × (second.ending ≡ answered)
+    × (heard : IsHeardTogether placed_to_end (start_on first.starts Zero) (events_in Zero first)
+    twice_parts example_message example_numbers)
+    × IsThroughWith (behind_digit example_numbers) example_message.identity
+    (heard.first ∷ heard.later)
 worked-together =
     let low = start-by first_moment first_moment [] (none-by first_moment) in
     let one = heard first_moment [] (lit≤ tt) (All-nil IsLogged) low in
@@ -401,19 +411,17 @@ worked-together =
     ap newest_moment (none-remembered Zero) in (
       heard_watch first_moment [] one.copies one.file,
       heard_watch 1735706400 one.copies two.copies two.file,
-      record {
-        chain = (
-          puts first_moment [] (lit≤ tt) (All-nil IsLogged) low one,
-          (puts 1735706400 one.copies (lit≤ tt) one.logged later two, tt),
-        );
-        clocks = (omega (arith, none), (omega (arith, newest), tt));
-        first_began = refl;
-        second_began = refl;
-        first_took = append-nil (twice_lines_at first_moment);
-        second_took = append-nil (twice_lines_at 1735706400);
-        first_ended = refl;
-        second_ended = refl;
-        heard = first-heard.heard;
-        came = first-heard.came;
-      },
+      (
+        puts first_moment [] (lit≤ tt) (All-nil IsLogged) low one,
+        (puts 1735706400 one.copies (lit≤ tt) one.logged later two, tt),
+      ),
+      (omega (arith, none), (omega (arith, newest), tt)),
+      refl,
+      refl,
+      append-nil (twice_lines_at first_moment),
+      append-nil (twice_lines_at 1735706400),
+      refl,
+      refl,
+      first-heard.heard,
+      first-heard.came,
     )

@@ -16,6 +16,7 @@ use Rattle.nx_combine.specs.CombinedPrinting.{is_printed_combined}
 use Rattle.nx_combine.specs.CopyPositions.{HeardCopy}
 use Rattle.nx_combine.specs.Families.{CombinedCopy, Family, begun_by, combined_copy, families_after}
 use Rattle.nx_combine.specs.Families.{has_family, index_joined, joined_by, last_index, most_positions}
+use Rattle.nx_combine.specs.Families.{index_joined_holding}
 use Rattle.nx_combine.specs.Judging.{Judged, is_of_number, judged_after}
 use Rattle.nx_combine.specs.Laws.{is_named}
 use Rattle.nx_combine.proofs.lemmas.Held.{Begins, HasNone, Joins, begins_one, from_if, joined_at_index}
@@ -101,16 +102,16 @@ of-joined families heard index family number identity there h =
 
 -- it has no family, begins one, or joins one
 data Becomes (families : List Family) (heard : HeardCopy) : Type 0 where
-  is_alone : HasNone families heard → Becomes families heard
-  is_first : has_family heard ≡ true → Begins families heard → Becomes families heard
+  is_alone : HasNone 200 families heard → Becomes families heard
+  is_first : has_family heard ≡ true → Begins 200 families heard → Becomes families heard
   is_joined : (index : ℕ) (family : Family) → has_family heard ≡ true
       → slice_get families index ≡ Some family → family.identity ≡ heard.copy.identity
-      → Joins families heard index family → Becomes families heard
+      → Joins 200 families heard index family → Becomes families heard
 
 joined-last : (families : List Family) (heard : HeardCopy) (o : Option ℕ) (index : ℕ)
     → last_index heard.copy.identity families ≡ o → index_joined families heard ≡ Some index
     → o ≡ Some index
-unfolding index_joined
+unfolding index_joined_holding
 joined-last families heard None index last is =
     absurd (nothing (ap (option_and_then _) (sym last) ∙ is))
   where
@@ -137,17 +138,17 @@ joined-named families heard index family is there =
 
 becomes-joining : (families : List Family) (heard : HeardCopy) (o : Option ℕ)
     → has_family heard ≡ true → index_joined families heard ≡ o → Becomes families heard
-becomes-joining families heard None has is = is_first has (begins_one families heard has is)
+becomes-joining families heard None has is = is_first has (begins_one 200 families heard has is)
 becomes-joining families heard (Some index) has is =
-    let at = joined_at_index families heard index is in
+    let at = joined_at_index 200 families heard index is in
     is_joined index at.family has at.there (joined-named families heard index at.family is at.there)
-    (joins_one families heard index at.family has is at.there)
+    (joins_one 200 families heard index at.family has is at.there)
 
 becomes-if : (families : List Family) (heard : HeardCopy) (b : Bool) → has_family heard ≡ b
     → Becomes families heard
 becomes-if families heard true is =
     becomes-joining families heard (index_joined families heard) is refl
-becomes-if families heard false is = is_alone (no_family families heard is)
+becomes-if families heard false is = is_alone (no_family 200 families heard is)
 
 becomes : (families : List Family) (heard : HeardCopy) → Becomes families heard
 becomes families heard = becomes-if families heard (has_family heard) refl

@@ -29,7 +29,7 @@ use Rattle.nx_disk.specs.declared.file.FileFault.{FileFault}
 use Rattle.nx_disk.specs.declared.file.FileFault.TheVariants as file
 use Rattle.nx_watch.specs.declared.watch_fault.WatchFault.{WatchFault}
 use Rattle.nx_watch.specs.declared.watch_fault.WatchFault.TheVariants as watch
-use Rattle.nx_watch.specs.Stamp.{Stamp}
+use Rattle.nx_watch.specs.Stamp.{CutNote, Stamp}
 use Rattle.nx_watch.specs.declared.watch_report.WatchReport.{WatchReport}
 use Rattle.nx_program.specs.declared.watch_command.WatchFailure.{WatchFailure}
 use Rattle.nx_program.specs.declared.watch_command.WatchFailure.TheVariants.{Ended, Unopened}
@@ -68,23 +68,24 @@ pub exits-fresh : {R W F D E : Type 0} (arguments : List Text) (remaining : R �
     (tells : TellsOfDisk D) (told : E → Option (List ℕ)) (errors : E)
     (faults faults_after : CountedDevice E)
     (stamps : List (Stamp D (CountedDevice W) (CountedDevice E)))
+    (cuts : List (CutNote D (CountedDevice E)))
     (status : ℕ)
     → reader.inner ≡ input → reader.failures ≡ 0 → writer.inner ≡ output → writer.failures ≡ 0
     → faults.inner ≡ errors → faults.failures ≡ 0
     → Exits arguments (devices remaining contents reader reader_after writer writer_after)
-    (beside files gives disk_after tells told faults faults_after stamps) status
+    (beside files gives disk_after tells told faults faults_after stamps cuts) status
     → Exits arguments (devices remaining contents (fresh_device input) reader_after
     (fresh_device output) writer_after)
-    (beside files gives disk_after tells told (fresh_device errors) faults_after stamps) status
+    (beside files gives disk_after tells told (fresh_device errors) faults_after stamps cuts) status
 exits-fresh {R} {W} {F} {D} {E} arguments remaining contents input reader reader_after output writer
     writer_after files gives disk_after tells told errors faults faults_after
-    stamps status input_is unread output_is unwritten errors_is untold exits =
+    stamps cuts status input_is unread output_is unwritten errors_is untold exits =
     let P : Devices R W → Type 0 = λ d. Exits arguments d
-    (beside files gives disk_after tells told (fresh_device errors) faults_after stamps) status in
+    (beside files gives disk_after tells told (fresh_device errors) faults_after stamps cuts) status in
     let on : CountedDevice R → CountedDevice W
     → Devices R W = λ r w. devices remaining contents r reader_after w writer_after in
     let Q : CountedDevice E → Type 0 = λ e. Exits arguments (on reader writer)
-    (beside files gives disk_after tells told e faults_after stamps) status in
+    (beside files gives disk_after tells told e faults_after stamps cuts) status in
     subst P (ap₂ on (fresh-is reader input input_is unread)
     (fresh-is writer output output_is unwritten))
     (subst Q (fresh-is faults errors errors_is untold) exits)
@@ -379,20 +380,19 @@ uncalled-ends arguments remaining contents reader old new (Err (fault.Call why))
 
 -- how it ends where they name a call that was performed over the reader of its input
 pub called-ends : {R W : Type 0} (arguments : List Text) (remaining : R → Option (List ℕ))
-    (contents : W → Option (List ℕ)) (given taken left handed_back : CountedDevice R)
+    (contents : W → Option (List ℕ)) (given left handed_back : CountedDevice R)
     (old new : CountedDevice W) (call : Call) (outcome : Result (Unit {0}) CallFault)
-    (told : Result (Unit {0}) Fault) → Names arguments call → taken ≡ given → handed_back ≡ left
-    → PerformsOnStreams call (devices remaining contents taken left old new) outcome
+    (told : Result (Unit {0}) Fault) → Names arguments call → handed_back ≡ left
+    → PerformsOnStreams call (devices remaining contents given left old new) outcome
     → told ≡ told_of_call outcome
     → EndsOnStreams arguments (devices remaining contents given handed_back old new) told
-called-ends {R} arguments remaining contents given taken left handed_back old new call outcome told
-    named from to performed is =
+called-ends {R} arguments remaining contents given left handed_back old new call outcome told named
+    to performed is =
     subst (λ (o : Result (Unit {0}) Fault).
     EndsOnStreams arguments (devices remaining contents given handed_back old new) o) (sym is)
     (go outcome (subst (λ (r : CountedDevice R).
     PerformsOnStreams call (devices remaining contents given r old new) outcome) (sym to)
-    (subst (λ (r : CountedDevice R).
-    PerformsOnStreams call (devices remaining contents r left old new) outcome) from performed)))
+    performed))
   where
     go : (o : Result (Unit {0}) CallFault)
         → PerformsOnStreams call (devices remaining contents given handed_back old new) o

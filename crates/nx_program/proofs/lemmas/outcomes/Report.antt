@@ -451,13 +451,6 @@ reported-line contents old mid new (Err why) status is led reports not_zero =
     (text-line why text (λ arguments. other (is ∙ arguments)) is_text))
     old mid new line.0 line.1 led.written reports
 
--- the same device in both has the same content and the same failures
-pub inner-same : {D : Type 0} (a b : CountedDevice D) → a ≡ b → a.inner ≡ b.inner
-inner-same {D} a b same = ap (λ (e : CountedDevice D). e.inner) same
-
-pub failures-same : {D : Type 0} (a b : CountedDevice D) → a ≡ b → a.failures ≡ b.failures
-failures-same {D} a b same = ap (λ (e : CountedDevice D). e.failures) same
-
 pub answers-reported : {R W F D E : Type 0} (arguments : List Text) (d : Devices R W)
     (b : Beside F D W E)
     (status : ℕ) → b.faults.failures ≡ 0 → Answers arguments d b status → status ≢ 0
@@ -518,13 +511,13 @@ ends-none arguments d b outcome never (inl runs) =
 ends-none arguments d b outcome never (inr (inl runs)) = runs.read.0.unopened
 ends-none arguments d b outcome never (inr (inr ends)) = ends.0.unopened
 
--- and no read is stamped
+-- and no read is stamped, and no cut noted
 watch-unstamped : {R W F D E : Type 0} (d : Devices R W) (b : Beside F D W E)
     (sendings : Sendings) (name : Text) (moment : ℕ) (outcome : Result (Unit {0}) Fault)
     → ((disk : D) → b.gives b.files name (Ok disk) → ⊥)
-    → WatchesLog d b sendings name moment outcome → b.stamps ≡ []
+    → WatchesLog d b sendings name moment outcome → (b.stamps ≡ []) × (b.cuts ≡ [])
 watch-unstamped d b sendings name moment outcome never (Err why, gives, opened) =
-    opened.2.unstamped
+    (opened.2.unstamped, opened.2.unnoted)
 watch-unstamped d b sendings name moment outcome never (Ok disk, gives, opened) =
     absurd (never disk gives)
 
@@ -532,8 +525,10 @@ pub ends-unstamped : {R W F D E : Type 0} (arguments : List Text) (d : Devices R
     (b : Beside F D W E)
     (outcome : Result (Unit {0}) Fault)
     → ((name : Text) (disk : D) → b.gives b.files name (Ok disk) → ⊥)
-    → EndsRun arguments d b outcome → b.stamps ≡ []
+    → EndsRun arguments d b outcome → (b.stamps ≡ []) × (b.cuts ≡ [])
 ends-unstamped arguments d b outcome never (inl runs) =
     watch-unstamped d b runs.sendings runs.name runs.moment outcome (never runs.name) runs.watched
-ends-unstamped arguments d b outcome never (inr (inl runs)) = runs.read.0.unstamped
-ends-unstamped arguments d b outcome never (inr (inr ends)) = ends.0.unstamped
+ends-unstamped arguments d b outcome never (inr (inl runs)) =
+    (runs.read.0.unstamped, runs.read.0.unnoted)
+ends-unstamped arguments d b outcome never (inr (inr ends)) =
+    (ends.0.unstamped, ends.0.unnoted)

@@ -16,6 +16,7 @@ use Rattle.nx_left_on.proofs.lemmas.chains.Stood.{goes-alone, goes-together}
 use Rattle.nx_left_on.proofs.lemmas.combined.Chains.{chain-whole}
 use Rattle.nx_copies.specs.copies.Shares.{MarkedCopy}
 use Rattle.nx_watch.specs.Stamp.{Stamp}
+use Rattle.nx_watch.specs.ToldFirst.{TellsBeforeChange}
 use Rattle.nx_watch.specs.Watch.{AnswersWatchBy, StandsForEntries}
 use Rattle.nx_watch.specs.declared.watch_report.WatchReport.{WatchReport}
 use Rattle.nx_watch.specs.declared.watch_fault.WatchFault.{WatchFault}
@@ -77,6 +78,24 @@ hands-back arguments d b reported sendings name moment disk status named back an
       | inr (inl runs) ↦ absurd (none-some b.disk_after disk runs.read.0.unopened back)
       | inr (inr ends) ↦ absurd (none-some b.disk_after disk ends.0.unopened back)
     ]
+
+-- what is cut of the file that is handed back had been told before that was changed
+pub cut-told-first : {R W F D E : Type 0} (d : Devices R W) (b : Beside F D W E)
+    (sendings : Sendings) (name : Text) (moment : ℕ) (disk : D)
+    (outcome : Result (Unit {0}) Fault) (start : List ℕ)
+    → WatchesLog d b sendings name moment outcome → b.disk_after ≡ Some disk
+    → b.tells.explains start disk
+    → (opened : D) × b.gives b.files name (Ok opened)
+    × TellsBeforeChange b.tells b.contents opened b.faults [] b.cuts start disk
+cut-told-first d b sendings name moment disk outcome start (Err why, given, rest) back explained =
+    absurd (none-some b.disk_after disk rest.2.unopened back)
+cut-told-first d b sendings name moment disk outcome start (Ok opened, given, rest) back explained =
+    let same : rest.0 ≡ disk = some-same rest.0 disk (sym rest.1 ∙ back) in (
+      opened,
+      given,
+      subst (TellsBeforeChange b.tells b.contents opened b.faults [] b.cuts start) same
+          (rest.3.told_first start (subst (b.tells.explains start) (sym same) explained)),
+    )
 
 -- ---- watches that take the sendings of a message so
 

@@ -1,8 +1,8 @@
-use Rattle.std.proofs.Common.{◌≡◌, ◌∙◌, [], None, map}
+use Rattle.std.proofs.Common.{◌≡◌, [], None, map}
 use Rattle.nx_program.proofs.lemmas.outcomes.Program.{exits-fresh, refused-exits, status-exits, success-exits}
 use Rattle.nx_program.proofs.lemmas.outcomes.Program.{success-named, arguments-exit}
-use Rattle.nx_program.proofs.lemmas.outcomes.Report.{answers-exits, ends-none, ends-unstamped, failures-same, inner-same}
-use Rattle.nx_watch.specs.Stamps.{counted_of, stamps_of}
+use Rattle.nx_program.proofs.lemmas.outcomes.Report.{answers-exits, ends-none, ends-unstamped}
+use Rattle.nx_watch.specs.Stamps.{counted_of, cut_notes, stamps_of}
 use Rattle.nx_program.specs.Arguments.{as_read}
 use Rattle.nx_program.specs.Program.{fresh_device}
 use Rattle.nx_fec.specs.Transfers.{devices}
@@ -13,27 +13,30 @@ returns g c =
     let arguments = as_read (map g.S.AsStr.text c.args.arguments.now) in
     let answers = c.exit_status.ensures in
     let reader = counted_of c.exit_status.result.input in
-    let left = devices g.R.Read.remaining g.W.Write.contents (counted_of c.new-reader.result) reader
+    let left = devices g.R.Read.remaining g.W.Write.contents c.new-reader.result reader
     c.new-writer.result c.exit_status.new.writer in
     let d = devices g.R.Read.remaining g.W.Write.contents (fresh_device c.args.input) reader
     (fresh_device c.args.output) c.exit_status.new.writer in
     let status = c.exit_status.result.status in
     let none : c.exit_status.result.file ≡ None =
     ends-none arguments left _ answers.outcome (λ name disk gives. absurd (cc)) answers.ends in
-    let unstamped : stamps_of c.exit_status.result.input ≡ [] =
+    let unused : (stamps_of c.exit_status.result.input ≡ [])
+    × (cut_notes c.exit_status.result.input ≡ []) =
     ends-unstamped arguments left _ answers.outcome (λ name disk gives. absurd (cc)) answers.ends in
+    let unstamped : stamps_of c.exit_status.result.input ≡ [] = unused.0 in
+    let unnoted : cut_notes c.exit_status.result.input ≡ [] = unused.1 in
     let exits =
     exits-fresh arguments g.R.Read.remaining g.W.Write.contents c.args.input
-    (counted_of c.new-reader.result)
+    c.new-reader.result
     reader c.args.output c.new-writer.result c.exit_status.new.writer
     _ _ c.exit_status.result.file _ g.E.Write.contents c.args.faults c.new-lines.result
-    answers.behind_call (stamps_of c.exit_status.result.input) status
-    (inner-same _ _ c.new-reader.ensures.reader ∙ c.new.ensures.inner)
-    (failures-same _ _ c.new-reader.ensures.reader ∙ c.new.ensures.none)
+    answers.behind_call (stamps_of c.exit_status.result.input)
+    (cut_notes c.exit_status.result.input) status
+    c.new-reader.ensures.inner c.new-reader.ensures.none
     c.new-writer.ensures.inner
     c.new-writer.ensures.none c.new-lines.ensures.inner c.new-lines.ensures.none
     (answers-exits arguments left _ status answers) in
-    let ended = rw unstamped at rw none at exits in
+    let ended = rw unstamped at rw unnoted at rw none at exits in
     let writer = c.exit_status.new.writer in
     record {
       exits = (reader, writer, answers.behind_call, ended);

@@ -1,6 +1,7 @@
 use Rattle.std.proofs.Common.{◌∙◌, Ok, ap, subst, sym}
 use Rattle.nx_fec.specs.Transfers.{devices}
-use Rattle.nx_watch.specs.Stamps.{counted_of, stamps_of}
+use Rattle.nx_watch.specs.ToldFirst.{TellsBeforeChange}
+use Rattle.nx_watch.specs.Stamps.{counted_of, cut_notes, stamps_of}
 use Rattle.nx_program.specs.WatchCommand.{WatchesFile, beside}
 use Rattle.nx_program.specs.declared.arguments.Sendings.{Sendings}
 use Rattle.nx_program.proofs.watch_command.watch_log.Goals as goal
@@ -11,7 +12,7 @@ returns-in-Alone g c =
     (counted_of c.watch.new.reader) c.args.writer.now c.watch.new.writer in
     let b = beside c.args.files g.F.LogFiles.gives c.ended.result.1 g.F.Disk.DiskFile
     g.E.Write.contents c.args.faults.now c.watch.new.notices
-    (stamps_of c.watch.new.reader) in (
+    (stamps_of c.watch.new.reader) (cut_notes c.watch.new.reader) in (
       Ok c.in-Ok.disk,
       subst (λ n. g.F.LogFiles.gives c.args.files n (Ok c.in-Ok.disk)) c.as_str.ensures
           c.in-Ok.ensures,
@@ -31,12 +32,18 @@ returns-in-Alone g c =
                     only.2,
                     only.3,
                     ap stamps_of only.1 ∙ c.requires.reader.none_made,
+                    ap cut_notes only.1 ∙ c.requires.unnoted,
                   );
               stamps = c.watch.ensures.stamps;
               refused = c.watch.ensures.refused;
               cause = c.watch.ensures.cause;
               within = c.watch.ensures.within;
               explained = c.watch.ensures.explained;
+              told_first = λ start explained.
+                  subst (λ none. TellsBeforeChange g.F.Disk.DiskFile g.E.Write.contents
+                  c.in-Ok.disk c.args.faults.now none (cut_notes c.watch.new.reader) start
+                  c.watch.result.1) c.requires.unnoted
+                  (c.watch.ensures.told_first start explained);
               told = c.watch.ensures.told;
             }),
         c.ended.ensures.outcome,
@@ -49,7 +56,7 @@ returns-in-Together g c =
     (counted_of c.watch_combined.new.reader) c.args.writer.now c.watch_combined.new.writer in
     let b = beside c.args.files g.F.LogFiles.gives c.ended-in-Together.result.1 g.F.Disk.DiskFile
     g.E.Write.contents c.args.faults.now c.watch_combined.new.notices
-    (stamps_of c.watch_combined.new.reader) in (
+    (stamps_of c.watch_combined.new.reader) (cut_notes c.watch_combined.new.reader) in (
       Ok c.in-Ok.disk,
       subst (λ n. g.F.LogFiles.gives c.args.files n (Ok c.in-Ok.disk)) c.as_str.ensures
           c.in-Ok.ensures,
@@ -69,12 +76,18 @@ returns-in-Together g c =
                     only.2,
                     only.3,
                     ap stamps_of only.1 ∙ c.requires.reader.none_made,
+                    ap cut_notes only.1 ∙ c.requires.unnoted,
                   );
               stamps = c.watch_combined.ensures.stamps;
               refused = c.watch_combined.ensures.refused;
               cause = c.watch_combined.ensures.cause;
               within = c.watch_combined.ensures.within;
               explained = c.watch_combined.ensures.explained;
+              told_first = λ start explained.
+                  subst (λ none. TellsBeforeChange g.F.Disk.DiskFile g.E.Write.contents
+                  c.in-Ok.disk c.args.faults.now none (cut_notes c.watch_combined.new.reader) start
+                  c.watch_combined.result.1) c.requires.unnoted
+                  (c.watch_combined.ensures.told_first start explained);
               told = c.watch_combined.ensures.told;
             }),
         c.ended-in-Together.ensures.outcome,

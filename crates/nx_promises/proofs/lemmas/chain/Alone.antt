@@ -1,10 +1,10 @@
 -- Where only one channel is given elements, what is printed of it is all that is printed.
-use Rattle.std.proofs.Common.{◌≡◌, Bool, false, List, [], map, refl, sym, ap, ◌∙◌, subst, arith}
+use Rattle.std.proofs.Common.{◌≡◌, Bool, false, List, [], map, refl, sym, ap, ◌∙◌, subst}
 use Rattle.nx_envelope.specs.Copies.{beginnings, copies, header_at_end, headers}
 use Rattle.nx_envelope.specs.private.Reading.{identity_read}
 use Rattle.nx_fec.specs.air_files.Channels.{same_channel}
 use Rattle.nx_fec.specs.declared.air_files.channel.Channel.{Channel}
-use Rattle.nx_sync.specs.Locks.{IsNow, Past, hunting}
+use Rattle.nx_sync.specs.Locks.{IsNow, hunting}
 use Rattle.nx_copies.specs.copies.FoundCopies.{AreFoundIn}
 use Rattle.nx_copies.specs.Events.{Event, Start, elements_among}
 use Rattle.nx_copies.specs.copies.FoundCopies.{FoundCopy, TaggedCopy, found_to_end, past_copies}
@@ -18,14 +18,7 @@ use Rattle.nx_copies.proofs.lemmas.channels.Shares.{to_end-on}
 use Rattle.nx_copies.proofs.lemmas.printing.Logged.{one_to_end}
 use Rattle.nx_copies.proofs.lemmas.channels.Marked.{of-one}
 use Rattle.nx_copies.proofs.lemmas.channels.Some.{some-to_end}
-
--- no elements give no lock and no copy
-no-lock : IsNow [] [] (hunting 0)
-unfolding Past
-no-lock = record {
-  past = refl;
-  none = λ s after here. absurd (omega (arith, here.enough, here.heard));
-}
+use Rattle.nx_sync.proofs.lemmas.states.StateChanges.{first_hunt}
 
 no-copy : [] ≡ found_to_end [] [] (hunting 0)
 unfolding found_to_end past_copies bytes_of copies headers beginnings header_at_end identity_read
@@ -35,7 +28,7 @@ pub found-none : (events : List Event) → elements_among events ≡ [] → AreF
 found-none events none = record {
   locks = [];
   now = hunting 0;
-  stands = subst (λ (bits : List Bool). IsNow bits [] (hunting 0)) (sym none) no-lock;
+  stands = subst (λ (bits : List Bool). IsNow bits [] (hunting 0)) (sym none) first_hunt;
   whole = no-copy ∙ ap (λ (bits : List Bool). found_to_end bits [] (hunting 0)) (sym none);
 }
 

@@ -47,7 +47,7 @@ said-on_0 (line ∷ lines) h =
     ap (λ es. es ++ events_on Zero lines) (line-on_0 line h.0)
     ∙ ap (λ es. events_said line ++ es) (said-on_0 lines h.1)
 
-no-elements : elements_among [] ≡ []
+pub no-elements : elements_among [] ≡ []
 unfolding elements_among
 no-elements = refl
 

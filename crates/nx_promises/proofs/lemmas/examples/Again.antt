@@ -7,7 +7,7 @@ use Rattle.std.proofs.lemmas.List.Elements.{All-cons, All-nil}
 use Rattle.nx_fec.specs.air_files.Lines.{file_of}
 use Rattle.nx_fec.specs.declared.air_files.channel.Channel.TheVariants.{One}
 use Rattle.nx_memory.specs.Content.{IsLater}
-use Rattle.nx_memory.specs.Saved.{AreSavedStates, IsSavedState, nothing_saved}
+use Rattle.nx_memory.specs.Saved.{AreSavedStates}
 use Rattle.nx_memory.specs.Selection.{IsRefusable}
 use Rattle.nx_memory.specs.declared.memories.entry.MemoryEntry.{MemoryEntry}
 use Rattle.nx_memory.proofs.lemmas.Letters.{contains-none}
@@ -29,6 +29,7 @@ use Rattle.nx_promises.proofs.lemmas.examples.Channels.{file-is, heard-on_1}
 use Rattle.nx_promises.proofs.lemmas.examples.Emission.{first_bits}
 use Rattle.nx_receiver.proofs.lemmas.listening.Moments.{some-closed}
 use Rattle.nx_receiver.proofs.lemmas.listening.Taken.{are-taken}
+use Rattle.nx_memory.proofs.lemmas.StateTexts.{nothing_sound}
 
 -- the copy that is heard
 abbrev copy : TaggedCopy
@@ -89,22 +90,9 @@ refusable = record {
   without_vital = λ subject vital. contains-none subject;
 }
 
-nothing : IsSavedState nothing_saved
-nothing = record {
-  refused = refusable;
-  entries = record {
-    content = record {
-      bounded = lit≤ tt;
-      numbered = All-nil (λ (entry : MemoryEntry). 0 < entry.identity.number);
-      in_turn = tt;
-    };
-    in_range = lit≤ tt;
-  };
-}
-
 pub can-be-saved : AreSavedStates saved_long_ago
 can-be-saved = record {
-  on_0 = nothing;
+  on_0 = nothing_sound;
   on_1 = record {
     refused = refusable;
     entries = record {
@@ -117,5 +105,5 @@ can-be-saved = record {
       in_range = lit≤ tt;
     };
   };
-  on_2 = nothing;
+  on_2 = nothing_sound;
 }

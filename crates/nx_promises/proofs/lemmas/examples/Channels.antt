@@ -48,6 +48,7 @@ use Rattle.nx_promises.proofs.lemmas.examples.AirFile.{events-are, printed}
 use Rattle.nx_promises.proofs.lemmas.chain.Alone.{printed-none}
 use Rattle.nx_promises.proofs.lemmas.examples.Worked.{damaged_computed}
 use Rattle.nx_promises.proofs.lemmas.examples.WorkedLog.{bits_among-elements, log_is}
+use Rattle.nx_promises.proofs.lemmas.channels.Unnamed.{no-elements}
 
 abbrev bits : List Bool
 bits = bits_of damaged_words
@@ -152,22 +153,18 @@ among-moment : (more : List Event) → elements_among (m ∷ more) ≡ elements_
 unfolding elements_among m
 among-moment more = refl
 
-none-among : elements_among [] ≡ []
-unfolding elements_among
-none-among = refl
-
 -- what the file gives to the receiver of channel 1
 pub heard-on_1 : events_on One two_channels ≡ heard
 unfolding m
 heard-on_1 = sym heard-pieces
 
 quiet-0 : HasPrinted at_zero [] []
-quiet-0 = none-ended [] heard refl (omega (arith, ap length none-among))
+quiet-0 = none-ended [] heard refl (omega (arith, ap length no-elements))
 
 quiet-1 : HasPrinted at_zero (m ∷ []) []
 quiet-1 =
     none-ended (m ∷ []) (e 0 ++ (e 1 ++ (e 2 ++ []))) heard-pieces
-    (omega (arith, ap length (among-moment [] ∙ none-among)))
+    (omega (arith, ap length (among-moment [] ∙ no-elements)))
 
 quiet-2 : HasPrinted at_zero (m ∷ (e 0 ++ [])) []
 quiet-2 =
@@ -177,7 +174,7 @@ quiet-2 =
       arith,
       ap length (among-moment (e 0 ++ []) ∙ among-part 0 []),
       length-append (part 0) (elements_among []),
-      ap length none-among,
+      ap length no-elements,
       part-short 0,
     ))
 
@@ -193,7 +190,7 @@ quiet-3 =
       length-append (part 0) (elements_among (e 1 ++ [])),
       ap length (among-part 1 []),
       length-append (part 1) (elements_among []),
-      ap length none-among,
+      ap length no-elements,
       part-short 0,
       part-short 1,
     ))
@@ -242,7 +239,7 @@ to_end : PrintsToEnd at_zero (m ∷ (e 0 ++ (e 1 ++ (e 2 ++ [])))) (first_copy �
 to_end = subst (λ es. PrintsToEnd at_zero es (first_copy ∷ [])) heard-pieces heard-to_end
 
 nothing : PrintsToEnd at_zero (m ∷ []) []
-nothing = printed-none at_zero (m ∷ []) (among-moment [] ∙ none-among)
+nothing = printed-none at_zero (m ∷ []) (among-moment [] ∙ no-elements)
 
 -- ---- in turn
 

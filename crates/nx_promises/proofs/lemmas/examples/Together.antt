@@ -35,7 +35,8 @@ use Rattle.nx_copies.specs.copies.FoundCopies.{found_copy, place_in, tag}
 use Rattle.nx_copies.specs.copies.LockText.{PlacedByte, lock_text, positions, printed_by, taken_at, text_by}
 use Rattle.nx_combine.specs.CopyPositions.{HeardCopy, PlacedCopy, heard_copies, lock_positions}
 use Rattle.nx_combine.specs.CopyPositions.{past_placed, placed_to_end, positions_for, positions_of}
-use Rattle.nx_combine.specs.Families.{begun_by, families_after, has_family, index_joined}
+use Rattle.nx_combine.specs.Families.{begun_by, families_after, has_family}
+use Rattle.nx_combine.specs.Families.{families_after_holding, index_joined_holding}
 use Rattle.nx_combine.specs.Laws.{CameThrough, bears, positions_heard}
 use Rattle.nx_combine.specs.PositionEnds.{end_of, raw_text_of}
 use Rattle.nx_promises.specs.examples.Emission.{at_its_slot, heard_elements}
@@ -388,7 +389,7 @@ begun_if heard true = omega arith
 begun_if heard false = omega arith
 
 few_families : (heard : HeardCopy) → length (families_after [] heard) ≤ 1
-unfolding families_after index_joined
+unfolding families_after_holding index_joined_holding
 few_families heard = begun_if heard (has_family heard)
 
 pub twice_together : IsHeardTogether placed_to_end at_its_slot events twice_parts example_message

@@ -23,6 +23,7 @@ use Rattle.nx_copies.proofs.lemmas.once.Rising.{Rises}
 use Rattle.nx_copies.proofs.lemmas.emissions.Copies.{copy_at, header_of}
 use Rattle.nx_promises.proofs.lemmas.emissions.Headers.{headers_of_messages}
 use Rattle.nx_copies.proofs.lemmas.emissions.Places.{rises_at}
+use Rattle.nx_copies.proofs.lemmas.channels.Marked.{no-length}
 
 -- ---- lists of which one item passes a test
 
@@ -34,10 +35,6 @@ kept_rest : {A : Type 0} (p : A → Bool) (x : A) (xs : List A) → p x ≡ fals
     → filter p (x ∷ xs) ≡ filter p xs
 kept_rest p x xs h = ap (λ b. cond b (x ∷ filter p xs) (filter p xs)) h
 
-no_items : {A : Type 0} (xs : List A) → length xs ≡ 0 → xs ≡ []
-no_items [] h = refl
-no_items (x ∷ xs) h = absurd (omega (arith, h))
-
 -- none passes before the one
 none_before : {A : Type 0} (p : A → Bool) (before : List A) (x : A) (after : List A) (one : A)
     → filter p (before ++ x ∷ after) ≡ one ∷ [] → p x ≡ true → filter p before ≡ []
@@ -46,7 +43,7 @@ none_before p before x after one h passes =
     filter-append p before (x ∷ after)
     ∙ ap (λ l. filter p before ++ l) (kept_first p x after passes) in
     let count = length-append (filter p before) (x ∷ filter p after) in
-    no_items (filter p before) (omega (arith, ap length h, ap length parts))
+    no-length (filter p before) (omega (arith, ap length h, ap length parts))
 
 some_kept : {A : Type 0} (p : A → Bool) (x : A) (xs : List A) → p x ≡ true → filter p (x ∷ xs) ≡ []
     → ⊥

@@ -13,6 +13,7 @@ use Rattle.nx_combine.specs.CombinedPrinting.{if_printed_combined, is_printed_co
 use Rattle.nx_combine.specs.CopyPositions.{HeardCopy}
 use Rattle.nx_combine.specs.Families.{CombinedCopy, Family, begun_by, combined_copy, families_after}
 use Rattle.nx_combine.specs.Families.{has_family, index_joined, joined_at, joined_by, last_index}
+use Rattle.nx_combine.specs.Families.{families_after_holding}
 use Rattle.nx_combine.specs.Judging.{Judged, all_printed, judged_after, judged_behind}
 use Rattle.nx_combine.specs.Laws.{IsWholeCopy, bears, is_named}
 use Rattle.nx_combine.proofs.lemmas.Once.{named_as}
@@ -57,7 +58,7 @@ others-if identity families heard true (Some index) not all =
 others-after : (identity : Identity) (families : List Family) (heard : HeardCopy)
     → bears identity heard ≡ false → AllByRecursion (IsOther identity) families
     → AllByRecursion (IsOther identity) (families_after families heard)
-unfolding families_after
+unfolding families_after_holding
 others-after identity families heard not all =
     others-if identity families heard (has_family heard) (index_joined families heard) not all
 
@@ -107,7 +108,7 @@ none_whole identity so_far (heard ∷ copies) none =
     all_if (λ other. is_named identity other ≡ true → ¬ IsWholeCopy other) one
     (all_printed (judged_after so_far heard) copies)
     (is_printed_combined so_far.entries so_far.printed one)
-    (λ named whole. true≢false (sym named ∙ named_as identity so_far.families heard ∙ none.0))
+    (λ named whole. true≢false (sym named ∙ named_as 200 identity so_far.families heard ∙ none.0))
     (none_whole identity (judged_after so_far heard) copies none.1)
 
 pub judged_behind-append : (so_far : Judged) (xs ys : List HeardCopy)

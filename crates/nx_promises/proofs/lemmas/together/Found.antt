@@ -28,6 +28,7 @@ use Rattle.nx_combine.specs.CopyPositions.{ended_placed, standing_placed}
 use Rattle.nx_combine.specs.CopyPositions.{PlacedCopy, lock_bytes, lock_positions, past_placed, placed}
 use Rattle.nx_combine.specs.CopyPositions.{placed_to_end, positions_in_past}
 use Rattle.nx_promises.specs.laws.Together.{IsOfLostLock}
+use Rattle.nx_copies.proofs.lemmas.locks.Told.{past_now}
 
 -- The copy is one of the lock at t, which has so many words at least, with its positions in
 -- whatever way the lock ended.
@@ -165,11 +166,6 @@ past_of : (bits : List Bool) (locks ks : List Lock) (p : ℕ) → Extends locks 
 unfolding Past
 past_of bits locks ks p same past = (p, past)
 past_of bits (lock ∷ locks) ks p (newer e) past = past_of bits locks ks lock.from e past.1
-
-past_now : (bits : List Bool) (locks : List Lock) (now : Now) → IsNow bits locks now
-    → (p : ℕ) × Past bits locks p
-past_now bits locks (hunting p) is = (p, is.past)
-past_now bits locks (locked p t) is = (p, is.past)
 
 Ended≢LostLock : Ended ≡ LostLock → ⊥
 Ended≢LostLock e = cc

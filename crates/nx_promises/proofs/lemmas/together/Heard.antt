@@ -1,9 +1,8 @@
 -- Each position of a copy of a visible sending is taken as it was sent, or lost.
-use Rattle.std.proofs.Common.{◌≡◌, ℕ, zero, suc, ◌+◌, ◌-◌, ◌*◌, ◌<◌, ◌≤◌, ◌⊎◌, Bool, cond, List}
+use Rattle.std.proofs.Common.{◌≡◌, ℕ, zero, suc, ◌+◌, ◌-◌, ◌*◌, ◌<◌, ◌≤◌, ◌⊎◌, Bool, List}
 use Rattle.std.proofs.Common.{[], ◌∷◌, ◌++◌, length, map, take, drop, get_or, Some, slice_get}
 use Rattle.std.proofs.Common.{refl, sym, ap, ap₂, ◌∙◌, subst, arith, inl, inr, append_assoc}
 use Rattle.std.specs.List.{AllZip, Contains, flat_map}
-use Rattle.std.proofs.lemmas.Bool.{eq-eqb}
 use Rattle.std.proofs.lemmas.List.{get_or-append-add, get_or-map, get_or_append_left, length-append}
 use Rattle.std.proofs.lemmas.List.{length-map, length-take}
 use Rattle.std.proofs.lemmas.List.Concat.{flat_map-append}
@@ -12,7 +11,7 @@ use Rattle.std.proofs.lemmas.Option.{get_or_from_slice_get, slice_get_within}
 use Rattle.nx_code.specs.Reading.{Reception, combination, idle, lost, text}
 use Rattle.nx_code.specs.declared.shifts.Shift.TheVariants.{Figures, Letters}
 use Rattle.nx_envelope.specs.Message.{MessageView}
-use Rattle.nx_fec.specs.emissions.Emission.{SentPosition, phasing_position, traffic_position, end_position}
+use Rattle.nx_fec.specs.emissions.Emission.{SentPosition, traffic_position, end_position}
 use Rattle.nx_fec.specs.emissions.Emission.{bits_of, position_at, reception}
 use Rattle.nx_fec.specs.emissions.Pairing.{counts_as, nothing, pairing}
 use Rattle.nx_fec.proofs.lemmas.emissions.Emission.{word_sent-dx, word_sent-rx}
@@ -52,27 +51,13 @@ use Rattle.std.proofs.Common.{append-nil, true, false}
 use Rattle.std.proofs.lemmas.List.{length-drop}
 use Rattle.nx_promises.proofs.lemmas.together.Found.{Belongs, IsOfLock, copies_belong}
 use Rattle.nx_promises.proofs.lemmas.together.Parts.{get-drop, get-take, positions_behind, split_at}
-use Rattle.nx_promises.proofs.lemmas.together.Visible.{air_at, counted, dx-counts, long_heard, long_sent}
-use Rattle.nx_promises.proofs.lemmas.together.Visible.{rx-counts, seen-locked, seen-some, word_of-heard_in}
+use Rattle.nx_promises.proofs.lemmas.together.Visible.{air_at, long_heard, long_sent, seen-locked}
+use Rattle.nx_promises.proofs.lemmas.together.Visible.{seen-some}
+use Rattle.nx_station.proofs.lemmas.reception.PathLaws.{counted, dx-counts, rx-counts, taken-both}
+use Rattle.nx_station.proofs.lemmas.reception.PathLaws.{taken-dx, taken-rx}
+use Rattle.nx_copies.proofs.lemmas.emissions.Emissions.{word_of-heard_in}
 
 -- ---- what is taken of a position
-
-taken-both : (position : SentPosition)
-    → pairing (counted position) (counted position) ≡ reception position
-taken-both phasing_position = refl
-taken-both (traffic_position number) =
-    ap (λ b. cond b (combination number) lost) (eq-eqb number number refl)
-taken-both end_position = refl
-
-taken-dx : (position : SentPosition) → pairing (counted position) nothing ≡ reception position
-taken-dx phasing_position = refl
-taken-dx (traffic_position number) = refl
-taken-dx end_position = refl
-
-taken-rx : (position : SentPosition) → pairing nothing (counted position) ≡ reception position
-taken-rx phasing_position = refl
-taken-rx (traffic_position number) = refl
-taken-rx end_position = refl
 
 -- where something is taken, it is what was sent
 pub taken_or_lost : {sent : List SentPosition} {heard : List ℕ} {i : ℕ} {x : Reception}

@@ -153,7 +153,7 @@ module _ (finding : Finding) (within : AreWithin finding) (start : Start) (event
   are_together =
       let same = same_identity-true t.first.copy.identity identity t.first_bears in
       record {
-        begins = index_joined-none so_far.families t.first
+        begins = index_joined-none 200 so_far.families t.first
             (subst (λ i. last_index i so_far.families ≡ None) (sym same)
             (none_begun identity (none_judged start) t.before t.none_before refl));
         unknown = t.unknown;
@@ -190,7 +190,7 @@ module _ (finding : Finding) (within : AreWithin finding) (start : Start) (event
       let whole : t.before ++ (t.first ∷ t.later) ≡ (t.before ++ up_to) ++ rest =
       ap (λ l. t.before ++ l) (came.parts ∙ sym (append_assoc mid (one ∷ []) rest))
       ∙ sym (append_assoc t.before up_to rest) in
-      let once = once_all sent t.behind identity so_far t.first t.later are_together
+      let once = once_all 200 sent t.behind identity so_far t.first t.later are_together
       (sent-ended message numbers t.told t.sound) (sent-whole message numbers t.told t.sound) mid
       rest one came.parts came.named came.through in
       let text = sent-text message numbers t.told t.sound in
@@ -200,12 +200,12 @@ module _ (finding : Finding) (within : AreWithin finding) (start : Start) (event
       record {
         printed = printed_all log prints
             ∙ ap (λ l. all_copies (all_printed (none_judged start) l)) whole
-            ∙ ap all_copies (all_printed-append (none_judged start) (t.before ++ up_to) rest);
+            ∙ ap all_copies (all_printed-append 200 (none_judged start) (t.before ++ up_to) rest);
         once = subst (λ x. IsWholeOnce identity x (all_printed (none_judged start)
             (t.before ++ up_to)) (all_printed (judged_behind (none_judged start)
             (t.before ++ up_to)) rest)) text
             (subst₂ (λ now after. IsWholeOnce identity (text_sent sent) now after)
-            (sym (all_printed-append (none_judged start) t.before up_to))
+            (sym (all_printed-append 200 (none_judged start) t.before up_to))
             (ap (λ j. all_printed j rest)
             (sym (judged_behind-append (none_judged start) t.before up_to))) all);
       }

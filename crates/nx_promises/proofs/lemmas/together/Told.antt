@@ -1,20 +1,16 @@
 -- What a message sends behind the second digit of its header gives its text, full and without an
 -- error.
-use Rattle.std.proofs.Common.{◌≡◌, ℕ, ◌+◌, ◌-◌, false, true, cond, eqb, List, [], ◌∷◌, ◌++◌, length, map}
-use Rattle.std.proofs.Common.{drop, take, Some, is_some, unwrap_or, refl, sym, ap, ap₂, ◌∙◌, arith}
+use Rattle.std.proofs.Common.{◌≡◌, ℕ, ◌+◌, ◌-◌, true, List, [], ◌∷◌, ◌++◌, length, map}
+use Rattle.std.proofs.Common.{drop, take, Some, is_some, unwrap_or, refl, sym, ap, ◌∙◌, arith}
 use Rattle.std.proofs.Common.{append_assoc, append-nil}
-use Rattle.std.specs.List.{All}
-use Rattle.std.proofs.lemmas.Bool.{ne_eqb, true≢false}
 use Rattle.std.proofs.lemmas.List.{length-append, map-append, take_at}
-use Rattle.std.proofs.lemmas.List.Elements.{All-head, All-tail}
-use Rattle.std.proofs.lemmas.List.Sums.{sum_by-append, sum_by-cons}
-use Rattle.nx_code.specs.Reading.{character_of, characters, combination, is_in_code, shift_after_all, text}
+use Rattle.nx_code.specs.Reading.{character_of, combination, shift_after_all, text}
 use Rattle.nx_code.specs.Table.{row_of, table}
 use Rattle.nx_code.specs.declared.shifts.Shift.{Shift}
 use Rattle.nx_code.specs.declared.shifts.Shift.TheVariants.{Figures, Letters}
 use Rattle.nx_envelope.specs.Copies.{Ending, ending_of, errors_of, less_newline}
 use Rattle.nx_envelope.specs.Header.{end_marker}
-use Rattle.nx_envelope.specs.Message.{AreLines, IsLineByte, IsMessageLine, MessageView, text_of}
+use Rattle.nx_envelope.specs.Message.{AreLines, MessageView, text_of}
 use Rattle.nx_station.specs.Broadcast.{ending, head}
 use Rattle.nx_station.specs.reception.Sendings.{TellsMessage}
 use Rattle.nx_station.proofs.lemmas.strict_reading.ReadingBack.{Prints, Prints-append, Prints-character}
@@ -23,40 +19,7 @@ use Rattle.nx_copies.proofs.lemmas.emissions.Markers.{full_ending, full_text}
 use Rattle.nx_combine.specs.Laws.{IsWhole, text_sent}
 use Rattle.nx_combine.specs.PositionEnds.{closed, ending_by, has_ended, raw_text_of}
 use Rattle.nx_promises.specs.laws.Together.{behind_digit}
-
--- ---- the letters of the lines are no asterisks
-
-star_is_none : is_in_code 42 ≡ false
-unfolding is_in_code characters
-star_is_none = refl
-
-abbrev star_count : ℕ → ℕ
-star_count b = cond (eqb b 42) 1 0
-
-errors-append : (xs ys : List ℕ) → errors_of (xs ++ ys) ≡ errors_of xs + errors_of ys
-errors-append xs ys = sum_by-append star_count xs ys
-
-no_star : (b : ℕ) → IsLineByte b → star_count b ≡ 0
-no_star b h =
-    ap (λ t. cond {A = ℕ} t 1 0)
-    (ne_eqb b 42 (λ e. let star : is_in_code b ≡ false = ap is_in_code e ∙ star_is_none in
-    absurd (true≢false (sym h.0 ∙ star))))
-
-line_errors : (line : List ℕ) → All IsLineByte line → errors_of line ≡ 0
-line_errors [] h = refl
-line_errors (b ∷ line) h =
-    sum_by-cons star_count b line
-    ∙ ap₂ ◌+◌ (no_star b (All-head IsLineByte b line h))
-    (line_errors line (All-tail IsLineByte b line h))
-
-text_errors : (lines : List (List ℕ)) → All IsMessageLine lines → errors_of (text_of lines) ≡ 0
-text_errors [] h = refl
-text_errors (line ∷ lines) h =
-    errors-append (line ++ 10 ∷ []) (text_of lines)
-    ∙ ap₂ ◌+◌ (errors-append line (10 ∷ [])
-    ∙ ap (λ n. n + errors_of (10 ∷ []))
-    (line_errors line (All-head IsMessageLine line lines h).in_code))
-    (text_errors lines (All-tail IsMessageLine line lines h))
+use Rattle.nx_copies.proofs.lemmas.emissions.Found.{text_errors}
 
 -- ---- what stands behind the second digit
 

@@ -5,72 +5,31 @@ use Rattle.std.proofs.Common.{◌∙◌, subst, arith, inl, inr, append_assoc}
 use Rattle.std.proofs.lemmas.Bool.{cases_lt}
 use Rattle.std.proofs.lemmas.List.{length-append, length-replicate, get_or-replicate, take-take}
 use Rattle.std.proofs.lemmas.List.{get_or_append_left, get_or-append_right, take-append-drop}
-use Rattle.nx_code.specs.Table.{phasing_1, phasing_2, traffic_word}
+use Rattle.nx_code.specs.Table.{phasing_1, phasing_2}
 use Rattle.nx_code.specs.Word.{is_wrong, weight, wrong_in}
-use Rattle.nx_code.proofs.lemmas.Table.{traffic_word-is}
 use Rattle.nx_code.proofs.lemmas.WordCounts.{wrong_in-add, wrong_in-none, wrong_in-same}
-use Rattle.nx_fec.specs.emissions.Emission.{SentPosition, phasing_position, traffic_position, end_position}
+use Rattle.nx_fec.specs.emissions.Emission.{SentPosition, phasing_position, end_position}
 use Rattle.nx_fec.specs.emissions.Emission.{bits_of, dx_word, position_at, rx_word}
-use Rattle.nx_fec.specs.emissions.Pairing.{Counted, traffic, idle_signal, counts_as}
 use Rattle.nx_fec.proofs.lemmas.emissions.Emission.{word_sent-dx, word_sent-rx}
-use Rattle.nx_fec.proofs.lemmas.emissions.Pairing.{counts_as-combination}
-use Rattle.nx_fec.proofs.lemmas.emissions.RoundTrip.{counts_as-phasing_1, counts_as-phasing_2}
 use Rattle.nx_station.specs.Broadcast.{layout}
 use Rattle.nx_station.specs.reception.Path.{heard_in}
 use Rattle.nx_station.specs.reception.Sendings.{IsReceived, ReceivedEmission}
 use Rattle.nx_station.proofs.lemmas.reception.PathLaws.{few-wrong}
-use Rattle.nx_station.proofs.lemmas.reception.PathPositions.{HasInner, IsInner, position-inner}
+use Rattle.nx_station.proofs.lemmas.reception.PathPositions.{HasInner, position-inner}
 use Rattle.nx_station.proofs.lemmas.reception.PathPositions.{told-inner}
 use Rattle.nx_station.proofs.lemmas.reception.PathWords.{not-empty}
 use Rattle.nx_station.proofs.lemmas.reception.WordWeights.{phasing_1-weight}
 use Rattle.nx_sync.specs.Laws.{phasing}
-use Rattle.nx_sync.specs.Locks.{IsLocked, Lock}
+use Rattle.nx_sync.specs.Locks.{IsLocked}
 use Rattle.nx_sync.specs.Words.{losing_count}
-use Rattle.nx_sync.proofs.lemmas.states.KeptPast.{Finds-more, Past-more, IsReleased-more}
 use Rattle.nx_copies.specs.laws.Emissions.{HoldsThrough}
 use Rattle.nx_copies.proofs.lemmas.emissions.Locks.{KeepsLock, LockedThrough, locked_through, right_1}
 use Rattle.nx_copies.proofs.lemmas.emissions.Locks.{right_2, word_of}
 use Rattle.nx_copies.proofs.lemmas.emissions.Texts.{layout-parts, on_air}
 use Rattle.nx_promises.specs.laws.Together.{IsSeen, IsVisible}
-
--- ---- what the words of a position count as
-
-traffic-counts : (number : ℕ) → 1 ≤ number → number ≤ 32
-    → counts_as (traffic_word number) ≡ traffic number
-traffic-counts number low high =
-    ap counts_as (traffic_word-is number low high) ∙ counts_as-combination number low high
-
--- what a position of the emission counts as
-abbrev pub counted : SentPosition → Counted
-counted phasing_position = idle_signal
-counted (traffic_position number) = traffic number
-counted end_position = idle_signal
-
-pub dx-counts : (position : SentPosition) → IsInner position
-    → counts_as (dx_word position) ≡ counted position
-dx-counts phasing_position h = counts_as-phasing_2
-dx-counts (traffic_position number) h = traffic-counts number h.0 h.1
-dx-counts end_position h = absurd h
-
-pub rx-counts : (position : SentPosition) → IsInner position
-    → counts_as (rx_word position) ≡ counted position
-rx-counts phasing_position h = counts_as-phasing_1
-rx-counts (traffic_position number) h = traffic-counts number h.0 h.1
-rx-counts end_position h = absurd h
-
--- no word of a message is phasing signal 1, nor is the DX word of phasing
-not_phasing_1 : (position : SentPosition) → IsInner position → dx_word position ≢ phasing_1
-not_phasing_1 phasing_position h e = absurd (omega (arith, e))
-not_phasing_1 (traffic_position number) h e =
-    let clash : traffic number ≡ idle_signal =
-    sym (traffic-counts number h.0 h.1) ∙ ap counts_as e ∙ counts_as-phasing_1 in
-    cc
-not_phasing_1 end_position h e = absurd h
-
--- the word of a slot
-pub word_of-heard_in : (heard : List ℕ) (i : ℕ) → word_of heard i ≡ heard_in heard (96 + i)
-word_of-heard_in heard i = let e : 96 + i - 96 ≡ i = omega arith in
-    ap (λ n. get_or heard n 0) (sym e)
+use Rattle.nx_copies.proofs.lemmas.emissions.Found.{stands_between}
+use Rattle.nx_station.proofs.lemmas.reception.PathLaws.{inner-no_phasing_1}
+use Rattle.nx_copies.proofs.lemmas.emissions.Emissions.{word_of-heard_in}
 
 module _ (numbers : List ℕ) (spellings : List (List ℕ)) (heard : List ℕ)
     (has : HasInner (layout (numbers ∷ spellings)))
@@ -176,7 +135,7 @@ module _ (numbers : List ℕ) (spellings : List (List ℕ)) (heard : List ℕ)
       ap (heard_in heard) (sym slot) ∙ sym (word_of-heard_in heard (2 * a)) ∙ one in
       let inner = position-inner sent has (48 + a) (omega (arith, long_heard, long_sent)) in
       let not_sent : heard_in heard (2 * (48 + a)) ≡ dx_word (position_at sent (48 + a)) → ⊥ =
-      λ e. not_phasing_1 (position_at sent (48 + a)) inner (sym e ∙ here) in
+      λ e. inner-no_phasing_1 (position_at sent (48 + a)) inner (sym e ∙ here) in
       elim (cases_lt (2 * (48 + a)) 144) [
         | inl early ↦ not_sent (visible.phasing (2 * (48 + a)) (omega arith) early
             ∙ word_sent-dx sent (48 + a))
@@ -220,17 +179,6 @@ seen-locked earlier emission seen =
         locked_through earlier heard (keeps numbers spellings heard has visible)
 
 -- ---- the lock holds
-
--- between a time when a lock stands and a later one when it stands still, it stands
-stands_between : (bits more rest : List Bool) (locks : List Lock) (p t : ℕ)
-    → IsLocked bits locks p t
-    → IsLocked ((bits ++ more) ++ rest) locks p t → IsLocked (bits ++ more) locks p t
-stands_between bits more rest locks p t before after = record {
-  past = Past-more bits more locks p before.past;
-  found = Finds-more bits more p t before.found;
-  holds = λ w how r. after.holds w how
-      (IsReleased-more (bits ++ more) rest t w before.found.here.enough r);
-}
 
 -- a lock that goes through words holds after each of their bits
 pub holds-through : (earlier : List Bool) (words : List ℕ) → LockedThrough earlier words

@@ -13,19 +13,19 @@ use Rattle.nx_memory.specs.Memory.{most_entries}
 use Rattle.nx_memory.specs.declared.memories.entry.MemoryEntry.{MemoryEntry}
 use Rattle.nx_sync.specs.Locks.{IsNow, Lock, Now}
 use Rattle.nx_receiver.specs.air_file_runs.Chain.{Leaves}
-use Rattle.nx_copies.specs.Events.{Event, Setting, Start, elements_among, first_setting, settings}
-use Rattle.nx_copies.specs.copies.FoundCopies.{AreFoundIn, FoundCopy, ended_so_far, found_copy, found_to_end}
+use Rattle.nx_copies.specs.Events.{Event, Setting, Start, elements_among, first_setting}
+use Rattle.nx_copies.specs.copies.FoundCopies.{AreFoundIn, ended_so_far, found_copy, found_to_end}
 use Rattle.nx_copies.specs.copies.FoundCopies.{open_so_far, standing_text, TaggedCopy, tag}
 use Rattle.nx_copies.specs.copies.FoundCopies.{tagged_copies}
 use Rattle.nx_copies.specs.copies.LockText.{PlacedByte, bytes_of}
 use Rattle.nx_copies.specs.copies.Printing.{entries_after, entries_made, entry_made, entry_of}
 use Rattle.nx_copies.specs.copies.Printing.{is_entered, is_good, is_number_00, is_printed}
 use Rattle.nx_receiver.specs.Receiver.{Receiving, Stands}
-use Rattle.nx_copies.specs.hearing.CopyHearer.{copies_by}
 use Rattle.nx_copies.specs.hearing.CopyHearing.{in_force}
 use Rattle.nx_receiver.proofs.lemmas.chain.Runs.{found_same}
 use Rattle.nx_copies.proofs.lemmas.printing.Logged.{end_adds, entries_after-append}
 use Rattle.nx_copies.proofs.lemmas.printing.Logged.{tagged_copies-append}
+use Rattle.nx_receiver.proofs.lemmas.receiver.Printing.{tagged-by}
 
 -- a copy that is cut makes no entry
 cut-made : (entries : List MemoryEntry) (copy : TaggedCopy) → copy.how ≡ Cut
@@ -87,11 +87,6 @@ left-of_ended start events left locks now stands l =
     (entries_after start.entries (tagged_copies (first_setting start) events cs)))
     (found_same events l.copies all l.found found)
     ∙ ap (last_of most_entries) (end-enters start events locks now)
-
-tagged-by : (first : Setting) (events : List Event) (copies : List FoundCopy)
-    → copies_by first (settings first events) copies ≡ tagged_copies first events copies
-unfolding copies_by tagged_copies
-tagged-by first events copies = refl
 
 -- a receiver that stands after events holds it
 pub held-left : {M : Type 0} (content : M → List MemoryEntry) (start : Start) (events : List Event)

@@ -256,9 +256,9 @@ given-elements (line ∷ lines) =
     ap₂ (λ bits more. bits ++ more) (line-given line) (given-elements lines)
 
 -- lines have fewer elements than bytes
-line-fewer : (line : Line) → length (elements_of line) ≤ length (line_bytes line)
-line-fewer (moment n) = omega arith
-line-fewer (elements mark bits) =
+pub elements-fewer : (line : Line) → length (elements_of line) ≤ length (line_bytes line)
+elements-fewer (moment n) = omega arith
+elements-fewer (elements mark bits) =
     let digits : length (map element_digit bits) ≡ length bits = simp length-map in
     let rest = 32 ∷ map element_digit bits in
     omega (
@@ -267,10 +267,10 @@ line-fewer (elements mark bits) =
       length-append (mark_bytes mark) rest,
       length-append (mark_bytes mark ++ rest) (10 ∷ []),
     )
-line-fewer (refuse_station mark letter) = omega arith
-line-fewer (accept_station mark letter) = omega arith
-line-fewer (refuse_subject mark letter) = omega arith
-line-fewer (accept_subject mark letter) = omega arith
+elements-fewer (refuse_station mark letter) = omega arith
+elements-fewer (accept_station mark letter) = omega arith
+elements-fewer (refuse_subject mark letter) = omega arith
+elements-fewer (accept_subject mark letter) = omega arith
 
 lines-fewer : (lines : List Line) → length (flat_map elements_of lines) ≤ length (file_of lines)
 lines-fewer [] = omega arith
@@ -278,7 +278,7 @@ lines-fewer (line ∷ lines) =
     omega (
       arith,
       length-append (elements_of line) (flat_map elements_of lines),
-      line-fewer line,
+      elements-fewer line,
       lines-fewer lines,
       length-append (line_bytes line)
           (file_of lines),
@@ -361,7 +361,7 @@ listens-part kind remaining contents first now reader reader_after writer mid ne
     (λ e. absurd (Ok-not_err _ _ e)))
     (record { failed = (λ w. one, λ k. (written, refl)); once = omega (arith, one) })
 
-on-some : (o : Option (List ℕ)) (P Q : List ℕ → Type 0) → ((xs : List ℕ) → P xs → Q xs)
+pub on-some : (o : Option (List ℕ)) (P Q : List ℕ → Type 0) → ((xs : List ℕ) → P xs → Q xs)
     → IfSome o P → IfSome o Q
 on-some None P Q f h = tt
 on-some (Some xs) P Q f h = f xs h

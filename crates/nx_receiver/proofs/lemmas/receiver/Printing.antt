@@ -85,7 +85,7 @@ awaits_with content start old new h s now copies log last more left stands force
     }
 
 -- what is in force at each element is what is in force at the events that are elements
-tagged-by : (first : Setting) (events : List Event) (copies : List FoundCopy)
+pub tagged-by : (first : Setting) (events : List Event) (copies : List FoundCopy)
     → copies_by first (settings first events) copies ≡ tagged_copies first events copies
 unfolding copies_by tagged_copies
 tagged-by first events copies = refl

@@ -1,5 +1,5 @@
 -- A run that goes on from a state over an air file, and writes its log, or what it leaves.
-use Rattle.std.proofs.Common.{◌≡◌, ℕ, List, Option, None, Some, IfSome, Ok, Err, inl, inr, refl}
+use Rattle.std.proofs.Common.{◌≡◌, ℕ, Ok, Err, inl, inr, refl}
 use Rattle.std.proofs.Common.{arith}
 use Rattle.nx_fec.specs.Transfers.{Devices}
 use Rattle.nx_fec.proofs.lemmas.devices.TransferLaws.{Ok-not_err}
@@ -15,12 +15,7 @@ use Rattle.nx_receiver.specs.declared.air_file_runs.resume_fault.ResumeFault.The
 use Rattle.nx_receiver.specs.declared.air_file_runs.resume_fault.Want.TheVariants.{Log, State}
 use Rattle.nx_receiver.specs.private.Unlogged.{ListensUnlogged}
 use Rattle.nx_receiver.proofs.lemmas.listening.Once.{printed-once}
-
--- what holds of known bytes, and what follows from it
-later : (o : Option (List ℕ)) (P Q : List ℕ → Type 0) → ((xs : List ℕ) → P xs → Q xs)
-    → IfSome o P → IfSome o Q
-later None P Q f h = tt
-later (Some xs) P Q f h = f xs h
+use Rattle.nx_receiver.proofs.lemmas.listening.Runs.{on-some}
 
 -- a report is no failed read
 report_read : (report : Report) → IsUnread (Ok report) → ⊥
@@ -40,7 +35,7 @@ module _ {R W : Type 0} (d : Devices R W) (states : SavedStates) where
     bytes = h.bytes;
     consumed = h.consumed;
     answer = (h.answer, printed-once (starts_from states) _ h.bytes report h.answer.1);
-    file = later (d.remaining d.reader.inner) _ _
+    file = on-some (d.remaining d.reader.inner) _ _
         (λ input k. (k, printed-once (starts_from states) _ input report k.1)) h.file;
     unread = (
       λ e. absurd (report_read report e),
@@ -71,7 +66,7 @@ module _ {R W : Type 0} (d : Devices R W) (states : SavedStates) where
       h.answer.0,
       record { left = left; sound = sound; gone = h.answer.1; here = here },
     );
-    file = later (d.remaining d.reader.inner) _ _ (λ input k. (
+    file = on-some (d.remaining d.reader.inner) _ _ (λ input k. (
       k.0,
       record { left = left; sound = sound; gone = k.1; here = here },
     )) h.file;
@@ -102,7 +97,7 @@ module _ {R W : Type 0} (d : Devices R W) (states : SavedStates) where
       (report, h.answer.0),
       record { left = left; sound = sound; gone = h.answer.1; here = here },
     );
-    file = later (d.remaining d.reader.inner) _ _ (λ input k. (
+    file = on-some (d.remaining d.reader.inner) _ _ (λ input k. (
       (report, k.0),
       record { left = left; sound = sound; gone = k.1; here = here },
     )) h.file;

@@ -25,7 +25,7 @@ use Rattle.nx_station.specs.Broadcast.{first_phasing}
 
 -- ---- the words that are sent
 
-traffic-counts : (number : ℕ) → 1 ≤ number → number ≤ 32
+pub traffic-counts : (number : ℕ) → 1 ≤ number → number ≤ 32
     → counts_as (traffic_word number) ≡ traffic number
 traffic-counts number low high =
     ap counts_as (traffic_word-is number low high) ∙ counts_as-combination number low high
@@ -40,7 +40,7 @@ traffic-no_phasing_1 number low high h =
 phasing_2-no_phasing_1 : phasing_2 ≢ phasing_1
 phasing_2-no_phasing_1 h = absurd (omega (arith, h))
 
-inner-no_phasing_1 : (position : SentPosition) → IsInner position → dx_word position ≢ phasing_1
+pub inner-no_phasing_1 : (position : SentPosition) → IsInner position → dx_word position ≢ phasing_1
 inner-no_phasing_1 phasing_position h e = phasing_2-no_phasing_1 e
 inner-no_phasing_1 (traffic_position number) h e = traffic-no_phasing_1 number h.0 h.1 e
 inner-no_phasing_1 end_position h e = absurd h
@@ -51,36 +51,36 @@ inner-in_code (traffic_position number) h = h
 inner-in_code end_position h = tt
 
 -- what a position counts as, and what is taken of it where one of its words or both count
-abbrev counted : SentPosition → Counted
+abbrev pub counted : SentPosition → Counted
 counted phasing_position = idle_signal
 counted (traffic_position number) = traffic number
 counted end_position = idle_signal
 
-dx-counts : (position : SentPosition) → IsInner position
+pub dx-counts : (position : SentPosition) → IsInner position
     → counts_as (dx_word position) ≡ counted position
 dx-counts phasing_position h = counts_as-phasing_2
 dx-counts (traffic_position number) h = traffic-counts number h.0 h.1
 dx-counts end_position h = absurd h
 
-rx-counts : (position : SentPosition) → IsInner position
+pub rx-counts : (position : SentPosition) → IsInner position
     → counts_as (rx_word position) ≡ counted position
 rx-counts phasing_position h = counts_as-phasing_1
 rx-counts (traffic_position number) h = traffic-counts number h.0 h.1
 rx-counts end_position h = absurd h
 
-taken-both : (position : SentPosition)
+pub taken-both : (position : SentPosition)
     → pairing (counted position) (counted position) ≡ reception position
 taken-both phasing_position = refl
 taken-both (traffic_position number) =
     ap (λ b. cond b (combination number) lost) (eq-eqb number number refl)
 taken-both end_position = refl
 
-taken-dx : (position : SentPosition) → pairing (counted position) nothing ≡ reception position
+pub taken-dx : (position : SentPosition) → pairing (counted position) nothing ≡ reception position
 taken-dx phasing_position = refl
 taken-dx (traffic_position number) = refl
 taken-dx end_position = refl
 
-taken-rx : (position : SentPosition) → pairing nothing (counted position) ≡ reception position
+pub taken-rx : (position : SentPosition) → pairing nothing (counted position) ≡ reception position
 taken-rx phasing_position = refl
 taken-rx (traffic_position number) = refl
 taken-rx end_position = refl

@@ -1,4 +1,3 @@
-use Rattle.std.proofs.Common.{rules}
 use Rattle.std.proofs.Common.{◌≡◌, ◌≢◌, ◌++◌, [], ◌∙◌, ap, subst, refl, map, length, arith}
 use Rattle.std.proofs.lemmas.Bool.{false≢true, eq-eqb}
 use Rattle.std.proofs.lemmas.List.{length-map}
@@ -126,12 +125,3 @@ returns g c =
     c.in_ok-file.file c.in_ok-file.file.items
     (c.as_bytes.result.now ++ file_of (bit_lines c.deref-4.result.now)) _ c.in_ok-file.ensures
     wrote.counts.none is wrote.ok
-
-pub returns-in_err-bits : goal.returns-in_err-bits
-returns-in_err-bits g c = search rules
-
-pub returns-in_err-line : goal.returns-in_err-line
-returns-in_err-line g c = search rules
-
-pub write_air-requires : goal.write_air-requires
-write_air-requires g c = search rules

@@ -169,7 +169,7 @@ more_bits (b ∷ more) bits locks now n =
     })
 
 -- hunting stands at the beginning
-first_hunt : IsNow [] [] (hunting 0)
+pub first_hunt : IsNow [] [] (hunting 0)
 unfolding Past
 first_hunt = record {
   past = refl;

@@ -35,7 +35,7 @@ least_true f (suc n) = elim (least_true f n) [
   ]
 ]
 
-is_dx-role : (role : Role) → is_dx role ≡ true → role ≡ Dx
+pub is_dx-role : (role : Role) → is_dx role ≡ true → role ≡ Dx
 is_dx-role Dx h = refl
 is_dx-role Rx h = absurd (cc)
 

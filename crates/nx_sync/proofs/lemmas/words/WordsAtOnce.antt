@@ -17,7 +17,7 @@ use Rattle.nx_code.specs.Word.{elements, number_of, weight, is_wrong}
 use Rattle.nx_code.proofs.lemmas.Class.{weight-class_of}
 use Rattle.nx_code.proofs.lemmas.Word.{number_of-elements}
 use Rattle.nx_sync.specs.declared.step.Role.{Role}
-use Rattle.nx_sync.specs.declared.step.Role.TheVariants.{Dx, Rx}
+use Rattle.nx_sync.specs.declared.step.Role.TheVariants.{Dx}
 use Rattle.nx_sync.specs.declared.track.Track.{Track}
 use Rattle.nx_sync.specs.Words.{marked_words, losing_count, other_role, is_dx}
 use Rattle.nx_sync.specs.Words.{role_of}
@@ -31,6 +31,7 @@ use Rattle.nx_sync.specs.Synchroniser.{has_dx_phasing_1, keeps_lock}
 use Rattle.nx_code.proofs.lemmas.WordCounts.{one_if-le}
 use Rattle.nx_code.proofs.lemmas.Packed.{length-elements}
 use Rattle.nx_sync.proofs.lemmas.words.WholeWords.{word_stands, word_step}
+use Rattle.nx_sync.proofs.lemmas.words.Computed.{is_dx-role}
 
 -- eight items by their places
 pub eight_items : (xs : List ℕ) → length xs ≡ 8
@@ -370,10 +371,6 @@ pub record Kept (held : Held) (words : List ℕ) : Type 0 where
   pub free : has_dx_phasing_1 words ≡ false
   pub few : count_by (λ b. b) held.wrong + length words < losing_count
 
-is_dx-true : (role : Role) → is_dx role ≡ true → role ≡ Dx
-is_dx-true Dx h = refl
-is_dx-true Rx h = absurd (cc)
-
 all_true : (a b c : Bool) → (a && b && c) ≡ true → (a ≡ true) × (b ≡ true) × (c ≡ true)
 all_true true true true h = (refl, refl, refl)
 all_true true true false h = absurd (cc)
@@ -392,7 +389,7 @@ awaits_dx (Some track) h =
     let free = all_true (track.filled == 0) (is_dx track.role) (track.was_p1 == 0) h in
     let plain : ℕ → ℕ → Track = λ f p. record { role = Dx; filled = f; was_p1 = p } in
     ap Some (ap (λ r. record { role = r; filled = track.filled; was_p1 = track.was_p1 })
-    (is_dx-true track.role free.1)
+    (is_dx-role track.role free.1)
     ∙ ap₂ plain (eqb-true track.filled 0 free.0) (eqb-true track.was_p1 0 free.2))
 
 pub kept : (held : Held) (words : List ℕ) → keeps_lock held words ≡ true → Kept held words

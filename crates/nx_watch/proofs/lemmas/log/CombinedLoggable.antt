@@ -19,6 +19,7 @@ use Rattle.nx_combine.specs.CopyPositions.{HeardCopy, PlacedCopy, heard_copies, 
 use Rattle.nx_combine.specs.Families.{CombinedCopy, Family, alone, combined as together_of}
 use Rattle.nx_combine.specs.Families.{combined_at, combined_copies, combined_copy, families_after}
 use Rattle.nx_combine.specs.Families.{given_by, has_family, index_joined, joined_by, together}
+use Rattle.nx_combine.specs.Families.{combined_copies_holding, combined_copy_holding}
 use Rattle.nx_combine.specs.PositionEnds.{closed, ending_by, raw_text_of}
 use Rattle.nx_combine.specs.private.laws.Heard.{found_of}
 use Rattle.nx_combine.proofs.lemmas.Closing.{found-end}
@@ -83,7 +84,7 @@ chosen-is families heard h selected (Some index) =
 
 copy-is : (families : List Family) (heard : HeardCopy) → HasHeardText heard
     → heard.copy.selected ≡ true → CanStand (combined_copy families heard)
-unfolding combined_copy
+unfolding combined_copy_holding
 copy-is families heard h selected = go (has_family heard)
   where
     go : (b : Bool) → CanStand (cond b (option_map_or (combined_at families heard)
@@ -104,7 +105,7 @@ if_selected-is families heard h false selected = All-nil CanStand
 
 copies-are : (families : List Family) (copies : List HeardCopy) → All HasHeardText copies
     → All CanStand (combined_copies families copies)
-unfolding combined_copies
+unfolding combined_copies_holding
 copies-are families [] h = All-nil CanStand
 copies-are families (heard ∷ copies) h =
     All-append CanStand _ (combined_copies (families_after families heard) copies)

@@ -15,7 +15,7 @@ returns-in_default c = λ families before one text selected stands errors comes.
 pub returns-in_default-get : goal.returns-in_default-get
 returns-in_default-get c = λ families before one text selected stands errors comes.
     let here = ap (λ (v : CombinerView). slice_get v.printed c.in-Some.index) c.self.view_is in
-    let at = found_at families c.args.self.now.families before one c.args.self.now.printed
+    let at = found_at 200 families c.args.self.now.families before one c.args.self.now.printed
     c.args.self.now.finder c.args.family c.in-Some.index
     (headed_copy c.args.head.now text selected) None stands comes c.in-Some.is c.requires.within
     (c.in_default-get.ensures ∙ here) in
@@ -25,7 +25,7 @@ returns-in_default-get c = λ families before one text selected stands errors co
 pub returns-in-Some-printed : goal.returns-in-Some-printed
 returns-in-Some-printed c = λ families before one text selected stands errors comes.
     let here = ap (λ (v : CombinerView). slice_get v.printed c.in-Some.index) c.self.view_is in
-    let at = found_at families c.args.self.now.families before one c.args.self.now.printed
+    let at = found_at 200 families c.args.self.now.families before one c.args.self.now.printed
     c.args.self.now.finder c.args.family c.in-Some.index
     (headed_copy c.args.head.now text selected) (Some c.in-Some-get.printed.now) stands comes
     c.in-Some.is c.requires.within (c.in-Some-get.ensures ∙ here) in
@@ -43,7 +43,7 @@ returns-in-Some-printed c = λ families before one text selected stands errors c
 pub returns-in-None : goal.returns-in-None
 returns-in-None c = λ families before one text selected stands errors comes.
     let here = ap (λ (v : CombinerView). slice_get v.printed c.in-Some.index) c.self.view_is in
-    let at = found_at families c.args.self.now.families before one c.args.self.now.printed
+    let at = found_at 200 families c.args.self.now.families before one c.args.self.now.printed
     c.args.self.now.finder c.args.family c.in-Some.index
     (headed_copy c.args.head.now text selected) (Some c.in-Some-get.printed.now) stands comes
     c.in-Some.is c.requires.within (c.in-Some-get.ensures ∙ here) in

@@ -6,6 +6,6 @@ use Rattle.nx_combine.proofs.combiner.Combiner.new.Goals as goal
 
 pub returns : goal.returns
 returns c =
-    stands_first c.in_ok-new.field-0 c.in_ok-with_capacity.field-0.items c.new-2.result
+    stands_first 200 c.in_ok-new.field-0 c.in_ok-with_capacity.field-0.items c.new-2.result
     c.in_ok-new.ensures
     (ap (λ (b : Buffer (Option EntryHead)). b.items) c.in_ok-with_capacity.ensures)

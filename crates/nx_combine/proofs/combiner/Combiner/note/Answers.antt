@@ -13,7 +13,7 @@ use Rattle.nx_combine.proofs.combiner.Combiner.note.Goals.{in-Some-get_mut, in_d
 
 pub returns-in_default-clause-stands : goal.returns-in_default-clause-stands
 returns-in_default-clause-stands c = λ families before one text selected stands errors comes.
-    stands_unnoted families c.args.self.now.families before one c.args.self.now.printed
+    stands_unnoted 200 families c.args.self.now.families before one c.args.self.now.printed
     c.args.self.now.finder c.args.self.now.finder stands
     (comes.of_family ∙ ap (option_map (λ i. length families - 1 - i)) c.in_default.is)
 
@@ -28,7 +28,7 @@ returns-clause-stands c = λ families before one text selected stands errors com
     ap (λ (v : CombinerView). v.families) c.self.view_is in
     elim c.match-get_mut.branch [
       | in-Some-get_mut w ↦
-          let at = found_at families c.args.self.now.families before one c.args.self.now.printed
+          let at = found_at 200 families c.args.self.now.families before one c.args.self.now.printed
           c.args.self.now.finder c.args.family index copy (slice_get c.args.self.now.printed index)
           stands comes c.in-Some.is c.requires.within refl in
           let noted : c.match-get_mut.self-inside.printed.items
@@ -36,7 +36,7 @@ returns-clause-stands c = λ families before one text selected stands errors com
           ap (λ (it : Inside). it.printed.items) w.self-inside-is
           ∙ ap₂ (λ (l : List (Option EntryHead)) (h : EntryHead). set l index (Some h)) same
           (sym (head_is one c.args.head text selected comes.is errors)) in
-          let after = stands_noted families c.args.self.now.families before one
+          let after = stands_noted 200 families c.args.self.now.families before one
           c.args.self.now.printed c.match-get_mut.self-inside.printed.items c.args.self.now.finder
           c.match-get_mut.self-inside.finder index stands
           (within_some c.args.family index (length c.args.self.now.families) c.in-Some.is
@@ -48,7 +48,7 @@ returns-clause-stands c = λ families before one text selected stands errors com
           }) families (one ∷ before))
           (sym (ap (λ (it : Inside). it.families) w.self-inside-is ∙ held)) after
       | in_default-get_mut w ↦
-          let at = found_at families c.args.self.now.families before one c.args.self.now.printed
+          let at = found_at 200 families c.args.self.now.families before one c.args.self.now.printed
           c.args.self.now.finder c.args.family index copy (slice_get c.args.self.now.printed index)
           stands comes c.in-Some.is c.requires.within refl in
           let none : option_copied_mut c.get_mut.result ≡ None =

@@ -13,7 +13,7 @@ returns-then-combined-clause-stands c = λ families before heard is stands.
     let cut = heard_of c.args.head.now c.args.text.now c.args.selected c.args.positions.now in
     let stood = subst (λ (v : CombinerView). StandsCombined v families before) (sym c.self.view_is)
     stands in
-    let same = (cut_same families heard (headed_copy c.args.head.now c.args.text.now
+    let same = (cut_same 200 families heard (headed_copy c.args.head.now c.args.text.now
     c.args.selected)
     c.args.positions.now is).after in
     let long : length (families_after families heard) ≡ length families + 1 =
@@ -24,7 +24,7 @@ returns-then-combined-clause-stands c = λ families before heard is stands.
     ≡ take 200 (None ∷ c.self.inside.printed.items) =
     ap (λ (b : Buffer (Option EntryHead)). b.items) c.push_front-forgotten.ensures.items
     ∙ ap (λ n. take n (None ∷ c.self.inside.printed.items)) c.self.invariant in
-    stands_begun families (families_after families heard) c.self.inside.families
+    stands_begun 200 families (families_after families heard) c.self.inside.families
     c.combine-combined.new.self before c.self.inside.printed.items
     c.push_front-forgotten.new.self.items c.self.inside.finder c.combine-combined.new.finder stood
     (c.combine-combined.ensures.after families stood.held ∙ ap (take 200) same) long now
@@ -33,7 +33,7 @@ pub returns-then-combined-clause-comes_to : goal.returns-then-combined-clause-co
 returns-then-combined-clause-comes_to c = λ families before heard is stands.
     let stood = subst (λ (v : CombinerView). StandsCombined v families before) (sym c.self.view_is)
     stands in
-    comes_by families heard c.args.head.now c.args.text.now c.args.selected c.args.positions.now
+    comes_by 200 families heard c.args.head.now c.args.text.now c.args.selected c.args.positions.now
     c.combine-combined.new.finder.text c.combine-combined.result is
     (c.combine-combined.ensures.combined families stood.held)
 
@@ -41,14 +41,14 @@ pub returns-else-combined-clause-stands : goal.returns-else-combined-clause-stan
 returns-else-combined-clause-stands c = λ families before heard is stands.
     let stood = subst (λ (v : CombinerView). StandsCombined v families before) (sym c.self.view_is)
     stands in
-    let same = (cut_same families heard (headed_copy c.args.head.now c.args.text.now
+    let same = (cut_same 200 families heard (headed_copy c.args.head.now c.args.text.now
     c.args.selected)
     c.args.positions.now is).after in
     let long : length (families_after families heard) ≡ length families + 0 =
     ap length (sym same)
     ∙ c.combine-combined.ensures.begins families stood.held
     ∙ ap (λ b. length families + begun_with b) c.if-combined.false in
-    stands_kept families (families_after families heard) c.self.inside.families
+    stands_kept 200 families (families_after families heard) c.self.inside.families
     c.combine-combined.new.self before c.self.inside.printed.items c.self.inside.finder
     c.combine-combined.new.finder stood
     (c.combine-combined.ensures.after families stood.held ∙ ap (take 200) same) long
@@ -57,6 +57,6 @@ pub returns-else-combined-clause-comes_to : goal.returns-else-combined-clause-co
 returns-else-combined-clause-comes_to c = λ families before heard is stands.
     let stood = subst (λ (v : CombinerView). StandsCombined v families before) (sym c.self.view_is)
     stands in
-    comes_by families heard c.args.head.now c.args.text.now c.args.selected c.args.positions.now
+    comes_by 200 families heard c.args.head.now c.args.text.now c.args.selected c.args.positions.now
     c.combine-combined.new.finder.text c.combine-combined.result is
     (c.combine-combined.ensures.combined families stood.held)

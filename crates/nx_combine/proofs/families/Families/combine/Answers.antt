@@ -1,8 +1,10 @@
-use Rattle.std.proofs.Common.{◌≡◌, ◌<◌, ℕ, List, length, Option, Some, None, refl, sym, ap, ◌∙◌, subst, arith}
+use Rattle.std.proofs.Common.{◌≡◌, ◌<◌, ℕ, List, length, Option, Some, None, refl, sym, ap, ◌∙◌}
+use Rattle.std.proofs.Common.{subst, arith}
 use Rattle.circular_buffer.proofs.Places.{slice_get-some}
 use Rattle.nx_combine.specs.Combining.{heard_of}
 use Rattle.nx_combine.specs.Families.{Family, joined_by}
-use Rattle.nx_combine.proofs.lemmas.Combine.{answers_begun, answers_joined, answers_none, joined_at-length}
+use Rattle.nx_combine.proofs.lemmas.Combine.{answers_begun, answers_joined, answers_none}
+use Rattle.nx_combine.proofs.lemmas.Combine.{joined_at-length}
 use Rattle.nx_combine.proofs.families.Families.combine.Goals as goal
 
 none_if : (o : Option ℕ) → ((x : ℕ) → o ≡ Some x → ⊥) → o ≡ None
@@ -12,19 +14,20 @@ none_if (Some x) none = absurd (none x refl)
 pub returns-then-not-has_family-clause-after : goal.returns-then-not-has_family-clause-after
 returns-then-not-has_family-clause-after c = λ families stands.
     let heard = heard_of c.args.head.now c.args.text.now c.args.selected c.args.positions.now in
-    (answers_none families c.args.self.now heard c.args.finder.now.text stands
+    (answers_none 200 families c.args.self.now heard c.args.finder.now.text stands
     (sym (c.has_family.ensures.has c.args.text.now) ∙ c.if-not-has_family.true)).after
 
 pub returns-then-not-has_family-clause-combined : goal.returns-then-not-has_family-clause-combined
 returns-then-not-has_family-clause-combined c = λ families stands.
     let heard = heard_of c.args.head.now c.args.text.now c.args.selected c.args.positions.now in
-    (answers_none families c.args.self.now heard c.args.finder.now.text stands
+    (answers_none 200 families c.args.self.now heard c.args.finder.now.text stands
     (sym (c.has_family.ensures.has c.args.text.now) ∙ c.if-not-has_family.true)).combined
 
 pub returns-in_default-clause-after : goal.returns-in_default-clause-after
 returns-in_default-clause-after c = λ families stands.
     let heard = heard_of c.args.head.now c.args.text.now c.args.selected c.args.positions.now in
-    (answers_begun families c.args.self.now c.begin.new.self heard c.index_joined.new.finder.text
+    (answers_begun 200 families c.args.self.now c.begin.new.self heard
+    c.index_joined.new.finder.text
     stands (sym (c.has_family.ensures.has c.args.text.now) ∙ c.if-not-has_family.false)
     (sym (c.index_joined.ensures.joined c.args.text.now c.args.selected)
     ∙ none_if c.index_joined.result c.in_default.not-Some)
@@ -33,7 +36,8 @@ returns-in_default-clause-after c = λ families stands.
 pub returns-in_default-clause-combined : goal.returns-in_default-clause-combined
 returns-in_default-clause-combined c = λ families stands.
     let heard = heard_of c.args.head.now c.args.text.now c.args.selected c.args.positions.now in
-    (answers_begun families c.args.self.now c.begin.new.self heard c.index_joined.new.finder.text
+    (answers_begun 200 families c.args.self.now c.begin.new.self heard
+    c.index_joined.new.finder.text
     stands (sym (c.has_family.ensures.has c.args.text.now) ∙ c.if-not-has_family.false)
     (sym (c.index_joined.ensures.joined c.args.text.now c.args.selected)
     ∙ none_if c.index_joined.result c.in_default.not-Some)
@@ -42,7 +46,7 @@ returns-in_default-clause-combined c = λ families stands.
 pub returns-clause-after : goal.returns-clause-after
 returns-clause-after c = λ families stands.
     let heard = heard_of c.args.head.now c.args.text.now c.args.selected c.args.positions.now in
-    (answers_joined families c.args.self.now c.join_at.new.self heard c.join_at.new.finder.text
+    (answers_joined 200 families c.args.self.now c.join_at.new.self heard c.join_at.new.finder.text
     c.in-Some.index c.given_in_place.result stands
     (sym (c.has_family.ensures.has c.args.text.now) ∙ c.if-not-has_family.false)
     (sym (c.in-Some.ensures.joined c.args.text.now c.args.selected))
@@ -57,7 +61,7 @@ returns-clause-after c = λ families stands.
 pub returns-clause-combined : goal.returns-clause-combined
 returns-clause-combined c = λ families stands.
     let heard = heard_of c.args.head.now c.args.text.now c.args.selected c.args.positions.now in
-    (answers_joined families c.args.self.now c.join_at.new.self heard c.join_at.new.finder.text
+    (answers_joined 200 families c.args.self.now c.join_at.new.self heard c.join_at.new.finder.text
     c.in-Some.index c.given_in_place.result stands
     (sym (c.has_family.ensures.has c.args.text.now) ∙ c.if-not-has_family.false)
     (sym (c.in-Some.ensures.joined c.args.text.now c.args.selected))
@@ -72,13 +76,14 @@ returns-clause-combined c = λ families stands.
 pub returns-then-not-has_family-clause-begins : goal.returns-then-not-has_family-clause-begins
 returns-then-not-has_family-clause-begins c = λ families stands.
     let heard = heard_of c.args.head.now c.args.text.now c.args.selected c.args.positions.now in
-    (answers_none families c.args.self.now heard c.args.finder.now.text stands
+    (answers_none 200 families c.args.self.now heard c.args.finder.now.text stands
     (sym (c.has_family.ensures.has c.args.text.now) ∙ c.if-not-has_family.true)).count
 
 pub returns-in_default-clause-begins : goal.returns-in_default-clause-begins
 returns-in_default-clause-begins c = λ families stands.
     let heard = heard_of c.args.head.now c.args.text.now c.args.selected c.args.positions.now in
-    (answers_begun families c.args.self.now c.begin.new.self heard c.index_joined.new.finder.text
+    (answers_begun 200 families c.args.self.now c.begin.new.self heard
+    c.index_joined.new.finder.text
     stands (sym (c.has_family.ensures.has c.args.text.now) ∙ c.if-not-has_family.false)
     (sym (c.index_joined.ensures.joined c.args.text.now c.args.selected)
     ∙ none_if c.index_joined.result c.in_default.not-Some)
@@ -87,7 +92,7 @@ returns-in_default-clause-begins c = λ families stands.
 pub returns-clause-begins : goal.returns-clause-begins
 returns-clause-begins c = λ families stands.
     let heard = heard_of c.args.head.now c.args.text.now c.args.selected c.args.positions.now in
-    (answers_joined families c.args.self.now c.join_at.new.self heard c.join_at.new.finder.text
+    (answers_joined 200 families c.args.self.now c.join_at.new.self heard c.join_at.new.finder.text
     c.in-Some.index c.given_in_place.result stands
     (sym (c.has_family.ensures.has c.args.text.now) ∙ c.if-not-has_family.false)
     (sym (c.in-Some.ensures.joined c.args.text.now c.args.selected))

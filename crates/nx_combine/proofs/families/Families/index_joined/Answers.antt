@@ -14,7 +14,7 @@ none_if (Some x) none = absurd (none x refl)
 pub returns-in_default-clause-joined : goal.returns-in_default-clause-joined
 returns-in_default-clause-joined c = λ text selected.
     let heard = heard_of c.args.head.now text selected c.args.positions.now in
-    sym (index_joined-none c.args.self.now heard
+    sym (index_joined-none 200 c.args.self.now heard
     (sym c.last_index.ensures ∙ none_if c.last_index.result c.in_default.not-Some))
 
 pub returns-in_default-get-clause-joined : goal.returns-in_default-get-clause-joined
@@ -22,7 +22,7 @@ returns-in_default-get-clause-joined c = λ text selected.
     let heard = heard_of c.args.head.now text selected c.args.positions.now in
     let gone : None ≡ slice_get c.self.inside.held.items c.in-Some.index =
     c.in_default-get.ensures in
-    sym (index_joined-gone c.args.self.now heard c.in-Some.index (sym c.in-Some.ensures)
+    sym (index_joined-gone 200 c.args.self.now heard c.in-Some.index (sym c.in-Some.ensures)
     (sym (gone ∙ ap (λ (l : List Family). slice_get l c.in-Some.index) c.self.view_is)))
 
 -- what the family that was found takes in
@@ -32,7 +32,7 @@ taken : (families held : List Family) (heard : HeardCopy) (index : ℕ) (family 
     → (if b then Some index else None) ≡ index_joined families heard
 taken families held heard index family b is last there few takes =
     let long = ap length is in
-    sym (index_joined-by families heard index family b (sym last)
+    sym (index_joined-by 200 families heard index family b (sym last)
     (sym (there ∙ ap (λ (l : List Family). slice_get l index) is)) (omega arith) takes)
 
 pub returns-then-takes_in-clause-joined : goal.returns-then-takes_in-clause-joined

@@ -18,7 +18,7 @@ returns-in_err-head-clause-stands g c start history log stands =
     } in
     let judged = c.judge_ready.ensures in
     let text = text_in c.judge_ready.new.self in
-    all_done content start history log old c.judge_ready.new.self c.close.new.self
+    all_done 200 content start history log old c.judge_ready.new.self c.close.new.self
     c.judge_ready.result (entry_list c.from_residual.result)
     (λ first bits settings copies heard.
     c.close.ensures.all first i.synchroniser bits settings copies heard)
@@ -46,7 +46,7 @@ returns-clause-stands g c start history log stands =
     let judged = c.judge_ready.ensures in
     let head = c.in_ok-head.head in
     let text = text_in c.judge_ready.new.self in
-    all_done content start history log old c.judge_ready.new.self c.close.new.self
+    all_done 200 content start history log old c.judge_ready.new.self c.close.new.self
     c.judge_ready.result (copy_of c.of.result ∷ [])
     (λ first bits settings copies heard.
     c.close.ensures.all first i.synchroniser bits settings copies heard)

@@ -55,7 +55,7 @@ returns-clause-stands g c start history log stands =
       is_given = i.is_given;
       memory = i.memory;
     }) (history ++ event ∷ []) log) (sym change)
-    (together_after content old _ event a_command refl start history log
+    (together_after 200 content old _ event a_command refl start history log
     (subst (λ r. StandsAfterAll content start r history log) (sym c.self.view_is) stands))
 
 pub returns-in-RefuseSubject-clause-stands : goal.returns-in-RefuseSubject-clause-stands
@@ -73,7 +73,7 @@ returns-in-RefuseSubject-clause-stands g c =
     let changed : OnOk c.refuse_subject.result
     (c.refuse_subject.new.self ≡ refused_after refused (said c.args.command)) = search rules in
     on_ok_weaker c.refuse_subject.result
-    (λ change start history log stands. together_after content old
+    (λ change start history log stands. together_after 200 content old
     (record { moment = before.taker.copies.moment; refused = c.refuse_subject.new.self })
     (events.command (said c.args.command)) a_command
     (ap (λ (r : Refused). record { moment = before.taker.copies.moment; refused = r }) change)

@@ -14,7 +14,8 @@ pub returns-in-Copy-clause-stands : goal.returns-in-Copy-clause-stands
 returns-in-Copy-clause-stands g c start history log awaits =
     let content = g.M.Recall.content in
     let judged = c.judge_ready.ensures in
-    copy_done content start history log c.args.self.now c.judge_ready.new.self c.judge_ready.result
+    copy_done 200 content start history log c.args.self.now c.judge_ready.new.self
+    c.judge_ready.result
     (record {
       none = judged.none;
       judged = judged.judged;
@@ -38,7 +39,7 @@ returns-in-Lock-clause-stands g c start history log awaits =
     let lock = subst (λ o. AwaitsAfterAll content start c.args.self.now history log (Some o))
     c.in-Lock.is awaits in
     let judged = c.judge_ready-in-Lock.ensures in
-    lock_done content start history log old c.judge_ready-in-Lock.new.self c.close.new.self
+    lock_done 200 content start history log old c.judge_ready-in-Lock.new.self c.close.new.self
     c.judge_ready-in-Lock.result
     (λ first bits settings copies heard.
     c.close.ensures.lock first i.synchroniser bits settings copies heard)
@@ -66,7 +67,7 @@ returns-in-CopyAndLock-clause-stands g c start history log awaits =
     let both = subst (λ o. AwaitsAfterAll content start c.args.self.now history log (Some o))
     c.in-CopyAndLock.is awaits in
     let judged = c.judge_ready-head.ensures in
-    let is = subst (λ r. IsJudgedReady content c.args.self.now r c.judge_ready-head.result)
+    let is = subst (λ r. IsJudgedReady 200 content c.args.self.now r c.judge_ready-head.result)
     (sym c.self-in-CopyAndLock.view_is)
     (record {
       none = judged.none;
@@ -74,7 +75,7 @@ returns-in-CopyAndLock-clause-stands g c start history log awaits =
       taker = judged.taker;
       synchroniser = judged.synchroniser;
     }) in
-    both_done content start history log c.args.self.now new c.leave_lock.new.self
+    both_done 200 content start history log c.args.self.now new c.leave_lock.new.self
     c.judge_ready-head.result
     (λ first bits settings copies ready heard.
     c.leave_lock.ensures.stands first i.synchroniser bits settings copies ready heard)

@@ -14,7 +14,7 @@ returns-clause-stands g c =
       is_given = i.is_given;
       memory = i.memory;
     } in
-    part_together g.M.Recall.content c.args.self.now old c.args.packed.now
+    part_together 200 g.M.Recall.content c.args.self.now old c.args.packed.now
     c.numbers-numbers.result.now c.args.from (c.len.result - c.args.from)
     heard.new.synchroniser heard.new.taker heard.result c.self.view_is
     c.numbers-numbers.ensures.elements (omega arith) (omega (arith, c.len.ensures.count))
@@ -31,7 +31,7 @@ returns-clause-first g c =
       is_given = i.is_given;
       memory = i.memory;
     } in
-    none_before_together g.M.Recall.content c.args.self.now old c.args.packed.now
+    none_before_together 200 g.M.Recall.content c.args.self.now old c.args.packed.now
     c.numbers-numbers.result.now c.args.from (c.len.result - c.args.from)
     heard.new.synchroniser heard.new.taker heard.result c.self.view_is
     c.numbers-numbers.ensures.elements (omega arith) (omega (arith, c.len.ensures.count))

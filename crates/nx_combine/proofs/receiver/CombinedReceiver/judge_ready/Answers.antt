@@ -84,7 +84,7 @@ returns-clause-judged g c judged heard ready noted entries stands =
       stands = is.stands judged.entries judged.families judged.printed heard given holds was;
       entered = is.entered judged.entries judged.families judged.printed heard given holds was;
       printed_is =
-          printed_was_selected judged heard c.in_ok-printed.printed c.judge.new.self.finder.text
+          printed_was_selected 200 judged heard c.in_ok-printed.printed c.judge.new.self.finder.text
           c.text.result.now kept.is_selected (ap (λ (t : TaggedCopy). t.selected) given.heard_copy)
           (is.printed judged.entries judged.families judged.printed heard given holds was
           ∙ ap (λ o. copies_printed o c.judge.new.self.finder.text c.text.result.now

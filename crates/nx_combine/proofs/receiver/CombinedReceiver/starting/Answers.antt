@@ -18,6 +18,6 @@ returns-clause-stands g c start entries moment selection =
     let force : in_force (hearer_in receiver) ≡ first_setting start =
     ap₂ (λ m r. record { moment = m; refused = r }) (taker.ensures.moment ∙ sym moment)
     (taker.ensures.selection ∙ sym selection) in
-    begins_together g.M.Recall.content start receiver
+    begins_together 200 g.M.Recall.content start receiver
     (taker.ensures.stands (first_setting start) c.hunting.result c.hunting.ensures.stands) force
     c.in-Ok.ensures entries c.newest.ensures.bounded

@@ -1,4 +1,3 @@
-use Rattle.std.proofs.Common.{rules}
 use Rattle.std.proofs.Common.{◌≡◌, Result, Ok, Err, IsErr, IsErrAnd, ap, subst, sym, ◌∙◌}
 use Rattle.nx_fec.specs.Transfers.{devices}
 use Rattle.nx_receiver.specs.air_file_runs.ListenOnce.{ListensOnce}
@@ -30,6 +29,3 @@ returns-clause-listens g c =
     c.listen_from.new.reader c.args.writer.now c.listen_from.new.writer in
     subst (λ (starts : Starts). ListensOnce starts d (Ok c.in_ok-report.report))
     (ap starts_from c.new.ensures ∙ from-nothing) c.in_ok-report.ensures.listens.listens
-
-pub returns-in_err-report-clause-memory : goal.returns-in_err-report-clause-memory
-returns-in_err-report-clause-memory g c = search rules

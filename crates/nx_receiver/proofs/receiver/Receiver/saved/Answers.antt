@@ -1,4 +1,3 @@
-use Rattle.std.proofs.Common.{rules}
 use Rattle.nx_receiver.proofs.lemmas.chain.Left.{held-left}
 use Rattle.nx_receiver.proofs.receiver.Receiver.saved.Goals as goal
 
@@ -7,6 +6,3 @@ returns-clause-leaves g c =
     rw (← c.self.view_is) (λ start history log stands.
     held-left g.M.Recall.content start history _ log c.of.result stands c.of.ensures.entries
     c.of.ensures.refused)
-
-pub returns-clause-entries : goal.returns-clause-entries
-returns-clause-entries g c = search rules

@@ -1,4 +1,4 @@
-use Rattle.std.proofs.Common.{◌≡◌, ◌∙◌, ap₂, rules, sym}
+use Rattle.std.proofs.Common.{◌≡◌, ◌∙◌, ap₂, sym}
 use Rattle.nx_copies.specs.Events.{first_setting}
 use Rattle.nx_copies.specs.hearing.CopyHearing.{in_force}
 use Rattle.nx_copies.specs.hearing.CopyTaker.{hearer_of}
@@ -15,9 +15,3 @@ returns-clause-stands g c start entries moment selection =
     begins g.M.Recall.content start c.args.memory hearer
     (λ first. nothing_heard first hearer c.hunting.ensures.stands c.new.ensures.fresh) force entries
     c.newest.ensures.bounded
-
-pub invariant_of-result : goal.invariant_of-result
-invariant_of-result g c = search rules
-
-pub returns-clause-taken : goal.returns-clause-taken
-returns-clause-taken g c = search rules

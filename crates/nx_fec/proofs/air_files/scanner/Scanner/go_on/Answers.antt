@@ -2,7 +2,8 @@ use Rattle.std.proofs.Common.{◌≡◌, ◌∙◌, ◌+◌, ◌<◌, ◌≤◌,
 use Rattle.std.proofs.Common.{length-append}
 use Rattle.std.proofs.lemmas.List.{length-take-le}
 use Rattle.nx_fec.proofs.lemmas.lines.Scan.{Scans-on, StopsIn-file, StopsIn-line}
-use Rattle.nx_fec.proofs.lemmas.lines.WholeLine.{part-more, part-open}
+use Rattle.nx_fec.proofs.lemmas.lines.WholeLine.{part-more}
+use Rattle.nx_fec.proofs.lemmas.lines.Kept.{kept-open}
 use Rattle.nx_fec.proofs.air_files.scanner.Scanner.go_on.Goals as goal
 
 pub returns-then-self-eq0-clause-bytes : goal.returns-then-self-eq0-clause-bytes
@@ -14,7 +15,7 @@ returns-then-self-eq0-clause-bytes c = λ limit before lines h.
     let within : fitting < length bytes =
     omega (arith, c.min.ensures, c.min-fitting.ensures, c.if-fitting-count.false, size) in
     let none = ap (λ s. s.latest) c.self.view_is ∙ c.open.ensures.latest in
-    let kept = sym (part-open c.self.inside.progress.ended c.self.inside.elements c.self.inside.kept
+    let kept = sym (kept-open c.self.inside.progress.ended c.self.inside.elements c.self.inside.kept
     none)
     ∙ ap (λ s. s.part) c.self.view_is in
     let whole = part-more c.self.inside.progress.ended c.self.inside.elements c.self.inside.kept
@@ -44,7 +45,7 @@ returns-clause-bytes c = λ limit before lines h.
     let within : fitting < length bytes =
     omega (arith, c.min.ensures, c.min-fitting.ensures, c.if-fitting-count.false, size) in
     let none = ap (λ s. s.latest) c.self.view_is ∙ c.open.ensures.latest in
-    let kept = sym (part-open c.self.inside.progress.ended c.self.inside.elements c.self.inside.kept
+    let kept = sym (kept-open c.self.inside.progress.ended c.self.inside.elements c.self.inside.kept
     none)
     ∙ ap (λ s. s.part) c.self.view_is in
     let whole = part-more c.self.inside.progress.ended c.self.inside.elements c.self.inside.kept

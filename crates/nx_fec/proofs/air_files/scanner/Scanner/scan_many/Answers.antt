@@ -2,7 +2,8 @@ use Rattle.std.proofs.Common.{◌≡◌, ◌+◌, ◌-◌, ◌∙◌, ◌++◌, 
 use Rattle.nx_fec.specs.private.ScannerKept.{IsKept, SpellsLine, line_ended, part_of}
 use Rattle.nx_fec.specs.private.WholeLines.{TakesLine}
 use Rattle.nx_fec.specs.declared.air_files.lines.LineKind.TheVariants.{Elements}
-use Rattle.nx_fec.proofs.lemmas.lines.WholeLine.{Digits, digits-spell, part-open, takes-digits}
+use Rattle.nx_fec.proofs.lemmas.lines.WholeLine.{Digits, digits-spell, takes-digits}
+use Rattle.nx_fec.proofs.lemmas.lines.Kept.{kept-open}
 use Rattle.nx_fec.proofs.air_files.scanner.Scanner.scan_many.Goals as goal
 
 pub invariant_of-self-2 : goal.invariant_of-self-2
@@ -24,7 +25,7 @@ invariant_of-self-2 c =
       are = c.read_front-count.ensures.elements;
     } in
     let none = ap (λ s. s.latest) c.self-2.view_is ∙ c.open.ensures.latest in
-    let empty = sym (part-open c.self-2.inside.progress.ended c.self-2.inside.elements
+    let empty = sym (kept-open c.self-2.inside.progress.ended c.self-2.inside.elements
     c.self-2.inside.kept none)
     ∙ ap (λ s. s.part) c.self-2.view_is ∙ c.open.ensures.part ∙ c.requires.empty in
     let ended = c.end_line.ensures in

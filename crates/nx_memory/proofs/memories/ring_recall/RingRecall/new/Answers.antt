@@ -1,4 +1,3 @@
-use Rattle.std.proofs.Common.{rules}
 use Rattle.std.proofs.Common.{refl}
 use Rattle.nx_memory.proofs.lemmas.Content.{content-nil}
 use Rattle.nx_memory.proofs.lemmas.Tables.{table-nil}
@@ -10,6 +9,3 @@ invariant_of-result c = rw c.in_ok-with_capacity.ensures (record {
   content = content-nil;
   table_of = rw c.in_ok-new.ensures table-nil;
 })
-
-pub prove-unreachable-requires : goal.prove-unreachable-requires
-prove-unreachable-requires c = search rules

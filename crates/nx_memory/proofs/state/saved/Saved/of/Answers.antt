@@ -19,6 +19,3 @@ invariant_of-result g c = grind (arith, common_steps)
 
 pub returns-clause-entries : goal.returns-clause-entries
 returns-clause-entries g c = grind (arith, common_steps)
-
-pub returns-clause-refused : goal.returns-clause-refused
-returns-clause-refused g c = search rules
