@@ -17,9 +17,10 @@ use Rattle.nx_watch.specs.declared.lines.line_effects.LinesWatched.{LinesWatched
 use Rattle.nx_watch.specs.declared.line_run.WatchEnd.{WatchEnd}
 use Rattle.nx_watch.specs.declared.line_run.WatchEnd.TheVariants.{Read, Back, Write}
 
--- What takes the lines that act stood so at first and stands so now, after these lines.
-abbrev pub Standing : Type 0 → Type 1
-Standing T = T → T → List Line → Type 0
+-- A relation between how what takes the lines that act stood at first, how it stands now, and the
+-- lines that it took between.
+abbrev pub TakerRelation : Type 0 → Type 1
+TakerRelation T = T → T → List Line → Type 0
 
 -- the moment in force behind lines that act
 abbrev pub force_behind : ℕ → List Line → ℕ
@@ -58,7 +59,7 @@ pub record WereGiven {W : Type 0} (contents : W → Option (List ℕ)) (old new 
   pub uncalled : bytes ≡ [] → new ≡ old
 
 -- None of these lines ended the watch, and those that act were taken.
-pub record HasTaken {T : Type 0} (stands : Standing T) (start now : T) (first : StartMoments)
+pub record HasTaken {T : Type 0} (stands : TakerRelation T) (start now : T) (first : StartMoments)
     (lines : List (Option Line)) : Type 0 where
   pub on : goes_on first lines ≡ true
   pub stood : stands start now (acting_lines first lines)
@@ -85,7 +86,7 @@ pub record StopsBehind (first : StartMoments) (bytes : List ℕ) (lines : List (
 -- With it stands what holds where the input ended, or the limit was reached, and what holds of the
 -- lines that it tells of.
 pub record RunOverLines (T : Type 0) : Type 1 where
-  pub stands : Standing T
+  pub stands : TakerRelation T
   pub start : T
   pub now : T
   pub first : StartMoments

@@ -6,7 +6,7 @@ use Rattle.nx_envelope.specs.Moment.{last_moment}
 use Rattle.nx_fec.specs.air_files.AirFile.{Line, moment, refuse_subject}
 use Rattle.nx_fec.specs.air_files.Lines.{max_line_bytes}
 use Rattle.nx_watch.specs.Acting.{count_without, first_without}
-use Rattle.nx_watch.specs.AnyLines.{AreLines, HasNoEnd}
+use Rattle.nx_watch.specs.AnyLines.{AreLines, HasNoLineEnd}
 use Rattle.nx_watch.specs.declared.lines.line_effects.StartMoments.{StartMoments}
 use Rattle.nx_watch.specs.declared.lines.no_effect.NoEffect.{NoEffect}
 use Rattle.nx_watch.specs.declared.lines.no_effect.NoEffect.TheVariants.{NoLine, TooLong, NoEnd}
@@ -19,7 +19,7 @@ pub record StandsBehind (bytes : List ℕ) (lines : List (Option Line)) (text be
     : Type 0 where
   pub front : List ℕ
   pub are : AreLines front lines []
-  pub unended : HasNoEnd text
+  pub unended : HasNoLineEnd text
   pub whole : bytes ≡ front ++ (text ++ behind)
 
 -- Why a line of the bytes has no effect that comes behind these lines. One that isn't understood is

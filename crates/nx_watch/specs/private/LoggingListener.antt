@@ -12,7 +12,7 @@ use Rattle.nx_receiver.specs.Listener.{HearsBy, ListeningOver, moment_in_force, 
 use Rattle.nx_copies.specs.copies.InTurn.{PrintAllToEndBy}
 use Rattle.nx_copies.specs.copies.Log.{Printing}
 use Rattle.nx_copies.specs.copies.Shares.{Given, MarkedCopy, Starts}
-use Rattle.nx_watch.specs.LineRun.{Standing, WereGiven, force_behind}
+use Rattle.nx_watch.specs.LineRun.{TakerRelation, WereGiven, force_behind}
 use Rattle.nx_watch.specs.Watch.{AnswersOverBy, FailsWithin, HasCause, PrintsLoggable, TellsOfCut}
 use Rattle.nx_watch.specs.Watch.{WatchDevices}
 use Rattle.nx_watch.specs.declared.kept_log.keeper.Keeper.{Keeper}
@@ -71,7 +71,7 @@ module _ {D C : Type 0} (kind : ReceiverKind C) (disk : TellsOfDisk D) where
     pub kept : HasKept disk start.keeper now.keeper texts given
 
   -- Since start they took these lines, and their writer was given the bytes.
-  abbrev pub TakesLines : {W : Type 0} → (W → Option (List ℕ)) → Standing (LoggingTo D C W)
+  abbrev pub TakesLines : {W : Type 0} → (W → Option (List ℕ)) → TakerRelation (LoggingTo D C W)
   TakesLines contents start now lines =
       (given : List ℕ) × KeepsLines start.logging now.logging lines given
       × WereGiven contents start.writer now.writer given

@@ -3,7 +3,7 @@ use Rattle.std.specs.Prelude.{◌≡◌, ◌⊎◌, ℕ, Bool, List, [], ◌++�
 use Rattle.nx_fec.specs.air_files.AirFile.{Line}
 use Rattle.nx_watch.specs.AnyLines.{AreLines, cut_line}
 use Rattle.nx_watch.specs.Acting.{count_without, first_without}
-use Rattle.nx_watch.specs.LineRun.{AnswersRun, AreCounted, HasTaken, HasTold, Standing}
+use Rattle.nx_watch.specs.LineRun.{AnswersRun, AreCounted, HasTaken, HasTold, TakerRelation}
 use Rattle.nx_watch.specs.LinesTold.{IsFirstTold, IsToldByRead, number_told, put_told}
 use Rattle.nx_watch.specs.declared.lines.line_effects.LineEffects.{LineEffects}
 use Rattle.nx_watch.specs.declared.lines.line_effects.StartMoments.{StartMoments}
@@ -69,7 +69,7 @@ HasToldSo old new failures IsTold =
 
 -- The run stands so behind these bytes: all lines with their ends were read, and those that act
 -- were taken. What was told of the lines is so whatever bytes come behind these.
-pub record IsRunning {T : Type 0} (stands : Standing T) (start now : T) (first : StartMoments)
+pub record IsRunning {T : Type 0} (stands : TakerRelation T) (start now : T) (first : StartMoments)
     (run : LineRun) (old : ToldBeside) (new : Option (List ℕ)) (failures : ℕ) (bytes : List ℕ)
     : Type 0 where
   pub lines : List (Option Line)
@@ -79,7 +79,7 @@ pub record IsRunning {T : Type 0} (stands : Standing T) (start now : T) (first :
       → TellsFirst first run.effects old new failures (bytes ++ more) lines
 
 -- the run is over with this end, in these bytes
-abbrev pub EndsRun : {T : Type 0} → Standing T → T → T → StartMoments → LineEffects
+abbrev pub EndsRun : {T : Type 0} → TakerRelation T → T → T → StartMoments → LineEffects
     → ToldBeside → Option (List ℕ) → ℕ → WatchEnd → List ℕ → Type 0
 EndsRun stands start now first kept old new failures end bytes =
     AnswersRun (record {

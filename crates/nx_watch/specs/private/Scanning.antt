@@ -8,7 +8,7 @@ use Rattle.nx_fec.specs.declared.fault.LineFault.{LineFault}
 use Rattle.nx_fec.specs.declared.fault.LineFault.TheVariants as file
 use Rattle.nx_fec.specs.declared.fault.LineFault.TheVariants.{LineLong, LineCut, BadLine}
 use Rattle.nx_watch.specs.Acting.{most_bytes}
-use Rattle.nx_watch.specs.AnyLines.{AreLines, HasNoEnd, cut_line}
+use Rattle.nx_watch.specs.AnyLines.{AreLines, HasNoLineEnd, cut_line}
 use Rattle.nx_watch.specs.LinesTold.{IsReason}
 use Rattle.nx_watch.specs.declared.lines.any_scanner.AnyScanner.{AnyScanner}
 use Rattle.nx_watch.specs.declared.lines.any_scanner.Ended.{Ended}
@@ -39,7 +39,7 @@ OnUnknown (Unknown why) bytes lines =
 -- these bytes behind those that the scanner took are passed over: the open line is too long
 abbrev pub ArePassed : Bool → List ℕ → List ℕ → Type 0
 ArePassed false since passed = passed ≡ []
-ArePassed true since passed = (since ≡ []) × HasNoEnd passed × (max_line_bytes < length passed)
+ArePassed true since passed = (since ≡ []) × HasNoLineEnd passed × (max_line_bytes < length passed)
 
 -- The bytes ended these lines: those before the inner scanner began, and those that it scanned.
 pub record IsScanning (now : AnyScanner) (bytes : List ℕ) (lines : List (Option Line))
@@ -72,9 +72,9 @@ IsForText why text = ⊥
 -- and where it doesn't end there, it is too long.
 pub record IsPassedOver (why : NoEffect) (part piece : List ℕ) : Type 0 where
   pub line : (at : ℕ) → at < length piece → slice_index piece at ≡ newline
-      → HasNoEnd (take at piece)
+      → HasNoLineEnd (take at piece)
       → IsNoLine (part ++ take at piece) × IsForText why (part ++ take at piece)
-  pub long : HasNoEnd piece → max_line_bytes < length (part ++ piece)
+  pub long : HasNoLineEnd piece → max_line_bytes < length (part ++ piece)
 
 -- the lines that an end cuts
 abbrev pub lines_cut : Option NoEffect → List (Option Line)

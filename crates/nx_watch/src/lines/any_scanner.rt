@@ -5,7 +5,7 @@ ghost use Rattle.std.specs.Prelude.{◌≡◌, ◌+◌, ◌<◌, ◌≤◌, ℕ,
 ghost use Rattle.nx_fec.specs.air_files.AirFile.{IsLine, Line};
 ghost use Rattle.nx_fec.specs.air_files.Lines.{Scans};
 ghost use Rattle.nx_fec.specs.air_files.Scanner.{elements_kept, kind_of};
-ghost use Rattle.nx_watch.specs.AnyLines.{AreLines, HasNoEnd, cut_line};
+ghost use Rattle.nx_watch.specs.AnyLines.{AreLines, HasNoLineEnd, cut_line};
 ghost use Rattle.nx_watch.specs.Acting.{most_bytes};
 ghost use Rattle.nx_watch.specs.declared.lines.any_scanner.Ended.TheVariants.{Nothing};
 ghost use Rattle.nx_watch.specs.private.Scanning.{CutsAs, IsPassedOver, IsScanning, OnLine, OnUnknown, lines_ended, reason_of_fault};
@@ -94,12 +94,12 @@ impl AnyScanner {
         requires some { 0 < length piece.now }
         requires short { length piece.now ≤ CHUNK }
         ensures scans { (before : List ℕ) (lines : List (Option Line)) (part : List ℕ)
-            → AreLines before lines [] → HasNoEnd part → IsPassedOver why part piece.now
+            → AreLines before lines [] → HasNoLineEnd part → IsPassedOver why part piece.now
             → IsScanning self.new ((before ++ part) ++ take result.0 piece.now)
             (lines ++ lines_ended result.1 self.new.scanner.latest) }
         ensures line { OnLine result.1 (IsSomeAnd self.new.scanner.latest IsLine) }
         ensures reason { (before : List ℕ) (lines : List (Option Line)) (part : List ℕ)
-            → AreLines before lines [] → HasNoEnd part → IsPassedOver why part piece.now
+            → AreLines before lines [] → HasNoLineEnd part → IsPassedOver why part piece.now
             → OnUnknown result.1 ((before ++ part) ++ take result.0 piece.now) lines }
         ensures some { 0 < result.0 }
         ensures all { result.0 ≤ length piece.now }

@@ -14,7 +14,7 @@ use Rattle.nx_fec.specs.air_files.Lines.{IsCause, Scanning, Scans, StopsIn, file
 use Rattle.nx_fec.specs.declared.fault.LineFault.{LineFault}
 use Rattle.nx_fec.specs.declared.fault.LineFault.TheVariants.{TooLong, LineLong, LineCut, BadLine}
 use Rattle.nx_fec.proofs.lemmas.lines.LineLaws.{spelling-IsBeginning}
-use Rattle.nx_watch.specs.AnyLines.{AreLines, HasNoEnd, Says, ended}
+use Rattle.nx_watch.specs.AnyLines.{AreLines, HasNoLineEnd, Says, ended}
 use Rattle.nx_watch.specs.LinesTold.{IsReason, StandsBehind}
 use Rattle.nx_watch.specs.private.Scanning.{IsForText, IsPassedOver, reason_of_fault}
 use Rattle.nx_watch.specs.declared.lines.no_effect.NoEffect.{NoEffect}
@@ -44,11 +44,11 @@ AreLines-append a b la lb rest h k = record {
 }
 
 -- no line, and a part of one
-pub AreLines-part : (rest : List ℕ) → HasNoEnd rest → AreLines rest [] rest
+pub AreLines-part : (rest : List ℕ) → HasNoLineEnd rest → AreLines rest [] rest
 AreLines-part rest h = record { texts = []; whole = refl; each = tt; part = h }
 
 -- a line that isn't understood
-pub AreLines-bad : (text : List ℕ) → HasNoEnd text → IsNoLine text
+pub AreLines-bad : (text : List ℕ) → HasNoLineEnd text → IsNoLine text
     → AreLines (text ++ 10 ∷ []) (None ∷ []) []
 AreLines-bad text h k = record {
   texts = text ∷ [];
@@ -93,17 +93,17 @@ pub long-none : (text : List ℕ) → 514 < length text → IsNoLine text
 long-none text h = λ line good is.
     omega (arith, h, (spelling-IsBeginning line good).short, ap length is)
 
-no_end-at : (bytes : List ℕ) (k : ℕ) → HasNoEnd bytes → k < length bytes → get_or bytes k 0 ≢ 10
+no_end-at : (bytes : List ℕ) (k : ℕ) → HasNoLineEnd bytes → k < length bytes → get_or bytes k 0 ≢ 10
 no_end-at [] k h below = absurd (omega arith)
 no_end-at (b ∷ bytes) zero h below = h.0
 no_end-at (b ∷ bytes) (suc k) h below = no_end-at bytes k h.1 (omega arith)
 
-no_end-back : (a b : List ℕ) → HasNoEnd (a ++ b) → HasNoEnd b
+no_end-back : (a b : List ℕ) → HasNoLineEnd (a ++ b) → HasNoLineEnd b
 no_end-back [] b h = h
 no_end-back (x ∷ a) b h = no_end-back a b h.1
 
 -- an end stands behind bytes that have none
-end-behind : (piece : List ℕ) (count at : ℕ) → HasNoEnd (take count piece)
+end-behind : (piece : List ℕ) (count at : ℕ) → HasNoLineEnd (take count piece)
     → count ≤ length piece → at < length piece → get_or piece at 0 ≡ 10 → count ≤ at
 end-behind piece count at none within below feed =
     elim (cases_lt at count) [
@@ -135,7 +135,7 @@ with-end before part piece at within feed =
 passed-cause : (limit front : ℕ) (lines : List Line) (part piece rest : List ℕ) (count : ℕ)
     (byte : ℕ) (why : LineFault)
     → count < length piece → get_or piece count 0 ≡ byte → front < limit
-    → HasNoEnd (take count piece) → length (part ++ take count piece) ≤ 514
+    → HasNoLineEnd (take count piece) → length (part ++ take count piece) ≤ 514
     → IsCause limit front lines (part ++ take count piece) (byte ∷ rest) why
     → IsPassedOver (reason_of_fault why) part piece
 passed-cause limit front lines part piece rest count byte TooLong within here room none short
@@ -188,7 +188,7 @@ passed-stop limit s t since piece lines why room h stop =
     let count = stop.count in
     let part = stops-part limit s t since piece lines count h stop.scans in
     let none = no_end-back s.part (take count piece)
-    (subst HasNoEnd part stop.scans.splits.part.none) in
+    (subst HasNoLineEnd part stop.scans.splits.part.none) in
     let rest = drop (count + 1) piece in
     passed-cause limit (length (since ++ take count piece)) lines s.part piece (rest ++ []) count
     (get_or piece count 0) why stop.within refl
@@ -222,8 +222,8 @@ passed-long part piece h = record {
 -- the line ends in the piece
 pub reason-ended : (why : NoEffect) (before part : List ℕ) (lines : List (Option Line))
     (piece : List ℕ) (at : ℕ)
-    → at < length piece → get_or piece at 0 ≡ 10 → HasNoEnd (take at piece)
-    → AreLines before lines [] → HasNoEnd part → IsPassedOver why part piece
+    → at < length piece → get_or piece at 0 ≡ 10 → HasNoLineEnd (take at piece)
+    → AreLines before lines [] → HasNoLineEnd part → IsPassedOver why part piece
     → (more : List ℕ)
     → IsReason (((before ++ part) ++ take (at + 1) piece) ++ more) lines None why
 reason-ended why before part lines piece at within feed none are open' over more =

@@ -8,7 +8,7 @@ use Rattle.nx_fec.specs.air_files.Scanner.{elements_kept, kind_of, line_with}
 use Rattle.nx_fec.specs.declared.air_files.lines.LineKind.{LineKind}
 use Rattle.nx_fec.specs.declared.air_files.lines.LineKind.TheVariants as kind
 use Rattle.nx_receiver.proofs.lemmas.listening.Lines.{of-kind}
-use Rattle.nx_watch.specs.LineRun.{Standing}
+use Rattle.nx_watch.specs.LineRun.{TakerRelation}
 use Rattle.nx_watch.specs.private.AnyReading.{SaysLine}
 use Rattle.nx_watch.specs.private.Running.{EndsRun, IsRunning, TellsFirst, ToldBeside}
 use Rattle.nx_watch.specs.private.Scanning.{IsScanning}
@@ -79,7 +79,7 @@ looked-all before after bytes rest none h =
     subst (Consumes before after) (ap (λ l. bytes ++ l) none ∙ append-nil bytes) h
 
 -- a run stands so too where more was read
-pub running-read : {T : Type 0} (stands : Standing T) (start now : T) (first : StartMoments)
+pub running-read : {T : Type 0} (stands : TakerRelation T) (start now : T) (first : StartMoments)
     (run new : LineRun) (old : ToldBeside) (told : Option (List ℕ)) (failures : ℕ) (bytes : List ℕ)
     → new.lines.scanner ≡ run.lines.scanner → new.effects ≡ run.effects
     → IsRunning stands start now first run old told failures bytes
@@ -93,7 +93,7 @@ running-read stands start now first run new old told failures bytes scanner effe
 }
 
 -- a read failed behind all of these lines
-pub running-fails : {T : Type 0} (stands : Standing T) (start now : T) (first : StartMoments)
+pub running-fails : {T : Type 0} (stands : TakerRelation T) (start now : T) (first : StartMoments)
     (run : LineRun) (old : ToldBeside) (new : Option (List ℕ)) (failures : ℕ) (bytes : List ℕ)
     → IsRunning stands start now first run old new failures bytes
     → EndsRun stands start now first run.effects old new failures Read bytes

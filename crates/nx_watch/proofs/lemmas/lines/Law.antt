@@ -5,11 +5,11 @@ use Rattle.std.specs.List.{AllZip, flat_map}
 use Rattle.nx_fec.specs.air_files.AirFile.{Line}
 use Rattle.nx_fec.proofs.lemmas.lines.LineLaws.{first_feed, no_feed-not, spelling-IsBeginning}
 use Rattle.nx_fec.proofs.lemmas.lines.LineLaws.{spelling-injective}
-use Rattle.nx_watch.specs.AnyLines.{AreLines, HasNoEnd, Says, ended}
+use Rattle.nx_watch.specs.AnyLines.{AreLines, HasNoLineEnd, Says, ended}
 
-pub says-no_end : (text : List ℕ) (said : Option Line) → Says text said → HasNoEnd text
+pub says-no_end : (text : List ℕ) (said : Option Line) → Says text said → HasNoLineEnd text
 says-no_end text None h = h.0
-says-no_end text (Some line) h = subst HasNoEnd (sym h.1) (spelling-IsBeginning line h.0).none
+says-no_end text (Some line) h = subst HasNoLineEnd (sym h.1) (spelling-IsBeginning line h.0).none
 
 pub says-one : (text : List ℕ) (a b : Option Line) → Says text a → Says text b → a ≡ b
 says-one text None None h k = refl
@@ -24,15 +24,16 @@ regroup text texts rest = append_assoc (ended text) (flat_map ended texts) rest
     ∙ append_assoc text (10 ∷ []) (flat_map ended texts ++ rest)
 
 reading-one : (t1 t2 : List (List ℕ)) (l1 l2 : List (Option Line)) (r1 r2 : List ℕ)
-    → AllZip Says t1 l1 → AllZip Says t2 l2 → HasNoEnd r1 → HasNoEnd r2
+    → AllZip Says t1 l1 → AllZip Says t2 l2 → HasNoLineEnd r1 → HasNoLineEnd r2
     → flat_map ended t1 ++ r1 ≡ flat_map ended t2 ++ r2 → (l1 ≡ l2) × (r1 ≡ r2)
 reading-one [] [] [] [] r1 r2 s1 s2 n1 n2 e = (refl, e)
 reading-one [] [] (a ∷ l1) l2 r1 r2 s1 s2 n1 n2 e = absurd s1
 reading-one [] [] [] (b ∷ l2) r1 r2 s1 s2 n1 n2 e = absurd s2
 reading-one [] (t ∷ t2) l1 l2 r1 r2 s1 s2 n1 n2 e =
-    absurd (no_feed-not t (flat_map ended t2 ++ r2) (subst HasNoEnd (e ∙ regroup t t2 r2) n1))
+    absurd (no_feed-not t (flat_map ended t2 ++ r2) (subst HasNoLineEnd (e ∙ regroup t t2 r2) n1))
 reading-one (t ∷ t1) [] l1 l2 r1 r2 s1 s2 n1 n2 e =
-    absurd (no_feed-not t (flat_map ended t1 ++ r1) (subst HasNoEnd (sym e ∙ regroup t t1 r1) n2))
+    absurd (no_feed-not t (flat_map ended t1 ++ r1)
+    (subst HasNoLineEnd (sym e ∙ regroup t t1 r1) n2))
 reading-one (t ∷ t1) (u ∷ t2) [] l2 r1 r2 s1 s2 n1 n2 e = absurd s1
 reading-one (t ∷ t1) (u ∷ t2) (a ∷ l1) [] r1 r2 s1 s2 n1 n2 e = absurd s2
 reading-one (t ∷ t1) (u ∷ t2) (a ∷ l1) (b ∷ l2) r1 r2 s1 s2 n1 n2 e =

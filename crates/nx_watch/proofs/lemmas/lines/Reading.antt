@@ -7,7 +7,7 @@ use Rattle.nx_code.specs.Reading.{IsCapital}
 use Rattle.nx_fec.specs.air_files.AirFile.{Line, moment, elements, refuse_station, accept_station}
 use Rattle.nx_fec.specs.air_files.AirFile.{refuse_subject, accept_subject, mark_bytes, spelling, IsLine}
 use Rattle.nx_fec.proofs.lemmas.lines.LineLaws.{line_read, line_read-spelling}
-use Rattle.nx_watch.specs.AnyLines.{AreLines, HasNoEnd, Says, ended}
+use Rattle.nx_watch.specs.AnyLines.{AreLines, HasNoLineEnd, Says, ended}
 use Rattle.nx_watch.proofs.lemmas.lines.Law.{says-no_end}
 
 -- ---- each text says a line or none
@@ -53,7 +53,7 @@ line-or-not (accept_subject mark letter) = capital-or-not letter
 read-of : (text : List ℕ) (line : Line) → IsLine line → text ≡ spelling line → line_read text ≡ line
 read-of text line good is = ap line_read is ∙ line_read-spelling line good
 
-says-some : (text : List ℕ) → HasNoEnd text → (said : Option Line) × Says text said
+says-some : (text : List ℕ) → HasNoLineEnd text → (said : Option Line) × Says text said
 says-some text none =
     elim (same-text text (spelling (line_read text))) [
       | inl is ↦ elim (line-or-not (line_read text)) [
@@ -87,7 +87,7 @@ record Reading (bytes : List ℕ) : Type 0 where
 -- one more byte in front of the first line
 in-front : (byte : ℕ) (bytes : List ℕ) → byte ≢ 10 → (texts : List (List ℕ))
     (lines : List (Option Line)) (rest : List ℕ) → bytes ≡ flat_map ended texts ++ rest
-    → AllZip Says texts lines → HasNoEnd rest
+    → AllZip Says texts lines → HasNoLineEnd rest
     → Reading (byte ∷ bytes)
 in-front byte bytes other [] [] rest whole each part = record {
   lines = [];

@@ -5,7 +5,7 @@ use Rattle.std.specs.List.{AllZip, flat_map}
 use Rattle.nx_fec.specs.air_files.AirFile.{Line, moment, elements, refuse_station, accept_station}
 use Rattle.nx_fec.specs.air_files.AirFile.{refuse_subject, accept_subject}
 use Rattle.nx_fec.proofs.lemmas.lines.LineLaws.{first_feed}
-use Rattle.nx_watch.specs.AnyLines.{HasNoEnd, Says, ended}
+use Rattle.nx_watch.specs.AnyLines.{HasNoLineEnd, Says, ended}
 use Rattle.nx_watch.specs.LinesTold.{IsReason, LacksEffect, StandsBehind}
 use Rattle.nx_watch.specs.declared.lines.no_effect.NoEffect.{NoEffect}
 use Rattle.nx_watch.specs.declared.lines.no_effect.NoEffect.TheVariants.{NoLine, TooLong, NoEnd}
@@ -37,7 +37,7 @@ stands-one bytes before s t x y h k =
     ∙ ap (λ l. l ++ (t ++ y)) (k.are.whole ∙ append-nil (flat_map ended k.are.texts)))
 
 -- bytes with no end are no longer than those before an end
-no_longer : (s t x y : List ℕ) → HasNoEnd s → s ++ x ≡ t ++ (10 ∷ y) → length s ≤ length t
+no_longer : (s t x y : List ℕ) → HasNoLineEnd s → s ++ x ≡ t ++ (10 ∷ y) → length s ≤ length t
 no_longer [] t x y none e = omega arith
 no_longer (b ∷ s) [] x y none e = let feed : b ≡ 10 = cc in absurd (none.0 feed)
 no_longer (b ∷ s) (c ∷ t) x y none e =

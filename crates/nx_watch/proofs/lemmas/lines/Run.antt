@@ -27,7 +27,7 @@ use Rattle.nx_watch.specs.Acting.{moments_said, went_far_back, with_start}
 use Rattle.nx_watch.specs.declared.lines.line_effects.StartMoments.{StartMoments}
 use Rattle.nx_watch.specs.AnyLines.{AreLines, cut_line}
 use Rattle.nx_watch.specs.LineRun.{AnswersRun, AreCounted, HasTaken, HasTold, MayAct, RunOverLines}
-use Rattle.nx_watch.specs.LineRun.{Standing, force_behind}
+use Rattle.nx_watch.specs.LineRun.{TakerRelation, force_behind}
 use Rattle.nx_fec.specs.Transfers.{CountedDevice}
 use Rattle.nx_kept.specs.declared.disk.DiskFile.{Ghosts as TellsOfDisk}
 use Rattle.nx_watch.specs.LinesTold.{IsFirstTold, IsReason}
@@ -202,7 +202,7 @@ on-one first lines line on stays =
       | false ↦ λ h. on-unset first lines line h on stays
     ] refl
 
-pub taken-idle : {T : Type 0} (stands : Standing T) (start now : T) (first : StartMoments)
+pub taken-idle : {T : Type 0} (stands : TakerRelation T) (start now : T) (first : StartMoments)
     (lines : List (Option Line)) (line : Option Line)
     → HasTaken stands start now first lines
     → acts first.newest (moments_behind first lines) line ≡ false
@@ -472,7 +472,7 @@ answers-told before AtEnd after Write bytes step h =
     (h.0, h.1, h.2, h.3, step (h.0 ++ Some h.1 ∷ []) h.4)
 
 -- a run of which more was told
-pub running-told : {T : Type 0} (stands : Standing T) (start now : T) (first : StartMoments)
+pub running-told : {T : Type 0} (stands : TakerRelation T) (start now : T) (first : StartMoments)
     (run : LineRun) (old told : ToldBeside) (new : Option (List ℕ)) (failures : ℕ)
     (after : Option (List ℕ)) (failures_after : ℕ) (bytes : List ℕ)
     → ((bytes : List ℕ) (lines : List (Option Line))
@@ -515,7 +515,7 @@ none-taken kind disk contents start now writer stood none = (
 )
 
 -- a run before its first line
-pub run-starts : {T : Type 0} (stands : Standing T) (start now : T) (first : StartMoments)
+pub run-starts : {T : Type 0} (stands : TakerRelation T) (start now : T) (first : StartMoments)
     (run : LineRun) (old : ToldBefore) (new : Option (List ℕ)) (failures : ℕ)
     → IsScanning run.lines.scanner [] [] → IsKept first [] run.effects → stands start now []
     → HasTold old.old new failures old.text

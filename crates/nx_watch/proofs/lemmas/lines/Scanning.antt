@@ -15,7 +15,7 @@ use Rattle.nx_fec.specs.air_files.Lines.{IsAirFile, IsCause, Scanning, Scans, St
 use Rattle.nx_fec.specs.declared.fault.LineFault.{LineFault}
 use Rattle.nx_fec.specs.declared.fault.LineFault.TheVariants.{TooLong, LineLong, LineCut, BadLine}
 use Rattle.nx_watch.specs.Acting.{most_bytes}
-use Rattle.nx_watch.specs.AnyLines.{AreLines, HasNoEnd, cut_line}
+use Rattle.nx_watch.specs.AnyLines.{AreLines, HasNoLineEnd, cut_line}
 use Rattle.nx_watch.specs.LinesTold.{StandsBehind}
 use Rattle.nx_watch.specs.private.Scanning.{ArePassed, CutsAs, IsPassedOver, IsScanning}
 use Rattle.nx_watch.specs.private.Scanning.{reason_of_fault}
@@ -46,8 +46,8 @@ fresh-stands now scans idle before lines are = record {
 
 -- ---- what stands behind the lines that were ended
 
-none-passed : (b : Bool) (since passed : List ℕ) → ArePassed b since passed → HasNoEnd passed
-none-passed false since passed h = subst HasNoEnd (sym h) tt
+none-passed : (b : Bool) (since passed : List ℕ) → ArePassed b since passed → HasNoLineEnd passed
+none-passed false since passed h = subst HasNoLineEnd (sym h) tt
 none-passed true since passed h = h.1
 
 pub record Parts (now : AnyScanner) (bytes : List ℕ) (lines : List (Option Line)) (passed : List ℕ)
@@ -55,7 +55,7 @@ pub record Parts (now : AnyScanner) (bytes : List ℕ) (lines : List (Option Lin
   pub front : List ℕ
   pub are : AreLines front lines []
   pub whole : bytes ≡ front ++ (now.scanner.part ++ passed)
-  pub none : HasNoEnd (now.scanner.part ++ passed)
+  pub none : HasNoLineEnd (now.scanner.part ++ passed)
 
 pub parts : (now : AnyScanner) (bytes : List ℕ) (lines : List (Option Line))
     → (h : IsScanning now bytes lines) → Parts now bytes lines h.passed
@@ -209,7 +209,7 @@ pub on-passing : (old : AnyScanner) (bytes more piece : List ℕ) (lines : List 
     (Holds : List ℕ → List (Option Line) → Type 0)
     → old.is_passing ≡ true → IsScanning old bytes lines
     → ((before : List ℕ) (lines : List (Option Line)) (part : List ℕ)
-    → AreLines before lines [] → HasNoEnd part → IsPassedOver reason.TooLong part piece
+    → AreLines before lines [] → HasNoLineEnd part → IsPassedOver reason.TooLong part piece
     → Holds ((before ++ part) ++ more) lines)
     → Holds (bytes ++ more) lines
 on-passing old bytes more piece lines Holds passing h pass =
@@ -229,7 +229,7 @@ pub on-stopped : (old : AnyScanner) (t : Scanning) (bytes more piece : List ℕ)
     → ((limit : ℕ) (since : List ℕ) (found : List Line) → Scans limit old.scanner since found
     → StopsIn limit t since piece found fault)
     → ((before : List ℕ) (lines : List (Option Line)) (part : List ℕ)
-    → AreLines before lines [] → HasNoEnd part → IsPassedOver why part piece
+    → AreLines before lines [] → HasNoLineEnd part → IsPassedOver why part piece
     → Holds ((before ++ part) ++ more) lines)
     → Holds (bytes ++ more) lines
 on-stopped old t bytes more piece lines fault why Holds is idle room h stop pass =
@@ -250,8 +250,8 @@ on-stopped old t bytes more piece lines fault why Holds is idle room h stop pass
 pub over-ended : (now : AnyScanner) (piece : List ℕ) (at : ℕ) (before : List ℕ)
     (lines : List (Option Line)) (part : List ℕ)
     → Scans most_bytes now.scanner [] [] → now.is_passing ≡ false
-    → at < length piece → get_or piece at 0 ≡ 10 → HasNoEnd (take at piece)
-    → AreLines before lines [] → HasNoEnd part → (why : NoEffect) → IsPassedOver why part piece
+    → at < length piece → get_or piece at 0 ≡ 10 → HasNoLineEnd (take at piece)
+    → AreLines before lines [] → HasNoLineEnd part → (why : NoEffect) → IsPassedOver why part piece
     → IsScanning now ((before ++ part) ++ take (at + 1) piece) (lines ++ None ∷ [])
 over-ended now piece at before lines part scans idle within feed none are open' why over =
     let text = part ++ take at piece in
@@ -265,12 +265,12 @@ over-ended now piece at before lines part scans idle within feed none are open' 
 pub over-all : (now : AnyScanner) (piece : List ℕ) (before : List ℕ) (lines : List (Option Line))
     (part : List ℕ)
     → Scans most_bytes now.scanner [] [] → now.is_passing ≡ true
-    → HasNoEnd (take (length piece) piece)
-    → AreLines before lines [] → HasNoEnd part → (why : NoEffect) → IsPassedOver why part piece
+    → HasNoLineEnd (take (length piece) piece)
+    → AreLines before lines [] → HasNoLineEnd part → (why : NoEffect) → IsPassedOver why part piece
     → IsScanning now ((before ++ part) ++ take (length piece) piece) (lines ++ [])
 over-all now piece before lines part scans passing none are open' why over =
     let all : take (length piece) piece ≡ piece = take_all (length piece) piece (omega arith) in
-    let none' = subst HasNoEnd all none in
+    let none' = subst HasNoLineEnd all none in
     record {
       before = before;
       earlier = lines;
