@@ -13,9 +13,17 @@ use crate::entry::EntryHead;
 use nx_envelope::How;
 use nx_memory::Recall;
 
-/// A full copy is good where this many times its errors is less than its characters: fewer than 4
-/// per cent are lost. An empty one is good.
+/// A share is good where this many times the part is less than the whole: it is less than 4 per
+/// cent (ITU-R M.540).
 const GOOD_SHARE: usize = 25;
+
+/// Whether the part is less than 4 per cent of the whole, as the errors of a good copy are of its
+/// characters. An empty whole counts as one.
+pub fn is_good_share(part: usize, whole: usize) -> bool
+    ensures { result ≡ spec.is_good_share part whole }
+{
+    GOOD_SHARE.saturating_mul(part) < whole.max(1)
+}
 
 /// Whether a copy that was found is printed, by its head, its text and whether it is selected. Its
 /// moment isn't before the newest of the memory, and the errors of its head are those of its text,
@@ -37,8 +45,7 @@ pub fn judge<M: Recall>(head: &EntryHead, text: &[u8], selected: bool, memory: &
 {
     let (identity, moment) = (&head.identity, head.moment);
     let printed = selected && (identity.number == 0 || !memory.knows(identity, moment));
-    let is_good = head.how == How::Full
-        && GOOD_SHARE * usize::from(head.errors) < text.len().max(1);
+    let is_good = head.how == How::Full && is_good_share(usize::from(head.errors), text.len());
     if printed && is_good && identity.number != 0 {
         memory.enter(*identity, moment);
     }

@@ -12,7 +12,7 @@ mod writing;
 
 pub use copy_taker::{CopyTag, CopyTaker, Over};
 pub use entry::{Entry, EntryHead};
-pub use judging::judge;
+pub use judging::{is_good_share, judge};
 pub use lock_printer::ReadPosition;
 pub use lock_reader::LockReader;
 pub use word_loop::{WordTaker, hear_elements};

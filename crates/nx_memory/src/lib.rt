@@ -13,7 +13,7 @@ pub use letter_set::LetterSet;
 pub use memories::entry::MemoryEntry;
 pub use memories::listed::Listed;
 pub use memories::plain_recall::PlainRecall;
-pub use memories::recall::{CAPACITY, LIFETIME, Recall};
+pub use memories::recall::{CAPACITY, LIFETIME, Recall, is_recent};
 pub use memories::renewing::Renewing;
 pub use memories::renewing_recall::RenewingRecall;
 pub use memories::ring_recall::RingRecall;

@@ -17,16 +17,18 @@ abbrev pub is_full : How → Bool
 is_full Full = true
 is_full _ = false
 
--- a copy has lost too much where this many times its errors is not less than its characters
+-- a share is good where this many times the part is less than the whole
 abbrev pub good_share : ℕ
 good_share = 25
 
--- A copy is good where it is full and fewer than 4 per cent of its characters are errors, the share
--- that ITU-R M.540 names: 25 times its errors is less than its characters. An empty text counts as
--- one character.
+-- The part is less than 4 per cent of the whole, the share that ITU-R M.540 names. An empty whole
+-- counts as one.
+abbrev pub is_good_share : ℕ → ℕ → Bool
+is_good_share part whole = nat_lt (good_share * part) (max 1 whole)
+
+-- A copy is good where it is full and fewer than 4 per cent of its characters are errors.
 abbrev pub is_good : TaggedCopy → Bool
-is_good copy =
-    is_full copy.how && nat_lt (good_share * errors_of copy.text) (max 1 (length copy.text))
+is_good copy = is_full copy.how && is_good_share (errors_of copy.text) (length copy.text)
 
 -- the one copy has fewer errors than the other
 abbrev pub has_fewer_errors : TaggedCopy → TaggedCopy → Bool

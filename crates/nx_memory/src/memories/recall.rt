@@ -1,9 +1,9 @@
 //! What a memory of identities answers, whatever holds it.
 
-ghost use Rattle.std.specs.Prelude.{◌≡◌, ◌<◌, ◌≤◌, List, length, false};
+ghost use Rattle.std.specs.Prelude.{◌≡◌, ◌-◌, ◌<◌, ◌≤◌, nat_lt, List, length, false};
 ghost use Rattle.nx_memory.specs.declared.memories.entry.MemoryEntry.{MemoryEntry};
 ghost use Rattle.nx_memory.specs.Memory.{most_entries, is_known, content_after};
-ghost use Rattle.nx_memory.specs.Memory.{newest_of, newest_moment};
+ghost use Rattle.nx_memory.specs.Memory.{newest_of, newest_moment, seconds_known};
 
 use nx_envelope::Identity;
 
@@ -12,6 +12,15 @@ pub const CAPACITY: usize = 200;
 
 /// How long an entry makes its identity known, in seconds: 66 hours (this profile).
 pub const LIFETIME: u64 = 237_600;
+
+/// Whether an entry of the one moment is less than 66 hours old at the other. One that is entered
+/// later is.
+#[inline(always)]
+pub fn is_recent(entered: u64, moment: u64) -> bool
+    ensures { result ≡ nat_lt (moment - entered) seconds_known }
+{
+    moment.saturating_sub(entered) < LIFETIME
+}
 
 /// A memory of the last 200 identities entered, each with its moment, in whole seconds since
 /// 1970-01-01 00:00:00 UTC. Its calls take no memory.

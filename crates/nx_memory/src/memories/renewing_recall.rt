@@ -4,7 +4,7 @@ ghost use Rattle.std.specs.Prelude.{◌≡◌, []};
 ghost use Rattle.nx_memory.specs.Memory.{content_after};
 
 use crate::memories::entry::MemoryEntry;
-use crate::memories::recall::{CAPACITY, LIFETIME, Recall};
+use crate::memories::recall::{CAPACITY, Recall, is_recent};
 use crate::memories::renewing::Renewing;
 use arrayvec::ArrayVec;
 use nx_envelope::Identity;
@@ -70,9 +70,8 @@ impl Recall for RenewingRecall {
     }
 
     fn knows(&self, identity: &Identity, moment: u64) -> bool {
-        self.entries.as_slice().iter().any(|entry| {
-            entry.identity == *identity && moment.saturating_sub(entry.moment) < LIFETIME
-        })
+        self.entries.as_slice().iter().any(|entry| entry.identity == *identity
+            && is_recent(entry.moment, moment))
     }
 
     fn enter(&mut self, identity: Identity, moment: u64) {

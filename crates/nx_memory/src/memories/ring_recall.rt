@@ -6,7 +6,7 @@ ghost use Rattle.std.specs.Prelude.{◌≡◌, [], IfOk};
 use crate::memories::entry::MemoryEntry;
 use crate::memories::listed::Listed;
 use crate::memories::moment_table::MomentTable;
-use crate::memories::recall::{CAPACITY, LIFETIME, Recall};
+use crate::memories::recall::{CAPACITY, Recall, is_recent};
 use circular_buffer::HeapCircularBuffer;
 use nx_envelope::Identity;
 use std::alloc::{AllocError, Global};
@@ -62,7 +62,7 @@ impl Recall for RingRecall {
 
     fn knows(&self, identity: &Identity, moment: u64) -> bool {
         match self.table.moment_of(*identity) {
-            Some(last) => moment.saturating_sub(last) < LIFETIME,
+            Some(last) => is_recent(last, moment),
             None => false,
         }
     }

@@ -10,7 +10,7 @@ ghost use Rattle.nx_memory.specs.private.StateReading.{is_behind as is_behind_al
 
 use super::Saved;
 use crate::memories::entry::MemoryEntry;
-use crate::memories::recall::{CAPACITY, LIFETIME};
+use crate::memories::recall::{CAPACITY, is_recent};
 use crate::selection::is_vital_subject;
 use crate::state::saved_line::{SavedLine, saved_line};
 use nx_envelope::Letter;
@@ -134,8 +134,7 @@ impl Saved {
         ensures { result ≡ is_known entry.identity entry.moment self.now.entries }
     {
         self.entries.as_slice().iter().any(|earlier| {
-            earlier.identity == entry.identity
-                && entry.moment.saturating_sub(earlier.moment) < LIFETIME
+            earlier.identity == entry.identity && is_recent(earlier.moment, entry.moment)
         })
     }
 }

@@ -11,7 +11,7 @@ returns-in-Some c =
       ← c.self.invariant.table_of.last c.args.identity.now,
       ←
           c.in-Some.ensures,
-      c.saturating_sub.ensures,
+      c.is_recent.ensures,
     )
 
 pub returns-in-None : goal.returns-in-None
