@@ -101,7 +101,7 @@ PREMISES, CAME = "meet the premises", "of which each character came through"
 A_FULL_SLOT = ("A" * 69 + "\n") * 58 + "\n" * 36
 
 
-def on_a_visible_channel(chance, words):
+def on_a_visible_path(chance, words):
     """The words of an emission, some of them of the wrong weight, from slot 144 on."""
     rate = chance.choice((0, 0.03, 0.1, 0.2, 0.3, 0.45))
     words = [wrong_word(chance) if at >= BOUND_FROM and chance.random() < rate else it for at, it in enumerate(words)]
@@ -113,8 +113,8 @@ def on_a_visible_channel(chance, words):
     return words
 
 
-def is_visible_channel(sent, heard):
-    """*A visible channel*, of the words of an emission."""
+def is_visible_path(sent, heard):
+    """*A visible path*, of the words of an emission."""
     if sent[FROM:BOUND_FROM] != heard[FROM:BOUND_FROM] or len(sent) != len(heard):
         return False
     if any(it != was and it in COUNTS_AS for was, it in zip(sent[BOUND_FROM:], heard[BOUND_FROM:])):
@@ -148,7 +148,7 @@ def lines_in(text):
 
 def random_sendings(chance):
     """An air file of a message that is sent again and again, with others beside it, and its
-    sendings; or None, where an emission isn't heard as a visible channel gives it."""
+    sendings; or None, where an emission isn't heard as a visible path gives it."""
     length = chance.choice((0, 6, 25, 40, 60))
     text = lines_in(random_text(chance, length)) if chance.randrange(200) else A_FULL_SLOT
     other = lines_in(random_text(chance, 30))
@@ -165,10 +165,10 @@ def random_sendings(chance):
         parts = [message(*it) for it in said]
         sent = words_of(emission(*parts, between=between))
         starts = starts_of(parts, between)
-        words = on_a_visible_channel(chance, sent)
+        words = on_a_visible_path(chance, sent)
         for first in starts:
             words = mended(chance, sent, words, first) if chance.randrange(4) else words
-        if not is_visible_channel(sent, words):
+        if not is_visible_path(sent, words):
             return None
         gap = noise(chance, chance.choice((0, 0, 0, 5, 100, 700)))
         first = chance.choice((0, 0, FROM, chance.randrange(FROM)))

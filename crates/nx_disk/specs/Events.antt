@@ -1,43 +1,50 @@
 -- The calls of a file with their answers, and what follows from them, where the file had these
 -- bytes at first.
-use Rattle.std.specs.Prelude.{◌≡◌, ◌⊎◌, ℕ, zero, suc, ◌+◌, ◌≤◌, Bool, true, false, List, [], ◌∷◌, ◌++◌, length, take, drop, Contains}
+use Rattle.std.specs.Prelude.{◌≡◌, ◌⊎◌, ℕ, ◌+◌, ◌≤◌, Bool, true, false, List, [], ◌∷◌, ◌++◌, length, take, drop, Contains, ⊤}
 use Rattle.std.proofs.Common.{inl, inr, arith}
 use Rattle.nx_kept.specs.Disk.{Torn, Cut}
+use Rattle.nx_disk.specs.declared.history.DiskCall.{DiskCall}
+use Rattle.nx_disk.specs.declared.history.DiskCall.TheVariants as call
 
--- Which call (0 reads, 1 writes, 2 cuts, 3 brings to the disk), a place or a size, the room of a
--- read, whether it succeeded, and the bytes that were read or written.
-abbrev pub DiskEvent : Type 0
-DiskEvent = ℕ × ℕ × ℕ × Bool × List ℕ
+-- a call, whether it succeeded, and the bytes that were read or written
+pub record DiskEvent : Type 0 where
+  pub call : DiskCall
+  pub has_succeeded : Bool
+  pub bytes : List ℕ
 
 -- what a read finds after a call
-abbrev pub seen_after : ℕ → ℕ → Bool → List ℕ → List ℕ → List ℕ
-seen_after (suc zero) at true bytes seen = take at seen ++ bytes ++ drop (at + length bytes) seen
-seen_after (suc (suc zero)) size true bytes seen = take size seen
-seen_after call at ok bytes seen = seen
+abbrev pub seen_after : DiskCall → Bool → List ℕ → List ℕ → List ℕ
+seen_after (call.Written at) true bytes seen =
+    take at seen ++ bytes ++ drop (at + length bytes) seen
+seen_after (call.Cut size) true bytes seen = take size seen
+seen_after _ succeeded bytes seen = seen
 
 -- what a read finds after these calls, the newest first
 abbrev pub seen_of : List ℕ → List DiskEvent → List ℕ
 seen_of start [] = start
-seen_of start (event ∷ earlier) = seen_after event.0 event.1 event.3 event.4 (seen_of start earlier)
+seen_of start (event ∷ earlier) =
+    seen_after event.call event.has_succeeded event.bytes (seen_of start earlier)
 
 -- what a read answered is what was there
-abbrev pub IsRead : ℕ → ℕ → ℕ → Bool → List ℕ → List ℕ → Type 0
-IsRead zero at room true bytes seen = bytes ≡ take room (drop at seen)
-IsRead call at room ok bytes seen = Unit {0}
+abbrev pub IsRead : DiskCall → Bool → List ℕ → List ℕ → Type 0
+IsRead (call.Read at room) true bytes seen = bytes ≡ take room (drop at seen)
+IsRead _ succeeded bytes seen = ⊤
 
 abbrev pub Explains : List ℕ → List DiskEvent → Type 0
-Explains start [] = Unit {0}
-Explains start (event ∷ earlier) = IsRead event.0 event.1 event.2 event.3 event.4
-    (seen_of start earlier) × Explains start earlier
+Explains start [] = ⊤
+Explains start (event ∷ earlier) =
+    IsRead event.call event.has_succeeded event.bytes (seen_of start earlier)
+    × Explains start earlier
 
 -- what a crash may leave after a call, or in it; a call that failed may have been made in part
-abbrev pub LeftAfter : ℕ → ℕ → Bool → List ℕ → List ℕ → (List ℕ → Type 0) → List ℕ → Type 0
-LeftAfter zero at ok bytes seen left c = left c
-LeftAfter (suc zero) at ok bytes seen left c =
-    ((d : List ℕ) × left d × Torn at (length bytes) d c) ⊎ (c ≡ seen_after 1 at ok bytes seen)
-LeftAfter (suc (suc zero)) size ok bytes seen left c = (d : List ℕ) × left d × Cut size d c
-LeftAfter (suc (suc (suc more))) at true bytes seen left c = c ≡ seen
-LeftAfter (suc (suc (suc more))) at false bytes seen left c = left c
+abbrev pub LeftAfter : DiskCall → Bool → List ℕ → List ℕ → (List ℕ → Type 0) → List ℕ → Type 0
+LeftAfter (call.Read at room) succeeded bytes seen left c = left c
+LeftAfter (call.Written at) succeeded bytes seen left c =
+    ((d : List ℕ) × left d × Torn at (length bytes) d c)
+    ⊎ (c ≡ seen_after (call.Written at) succeeded bytes seen)
+LeftAfter (call.Cut size) succeeded bytes seen left c = (d : List ℕ) × left d × Cut size d c
+LeftAfter call.Synced true bytes seen left c = c ≡ seen
+LeftAfter call.Synced false bytes seen left c = left c
 
 -- Before the first call it may leave what a read finds, or one of these files: an earlier program
 -- may have left writes that no sync followed. A list is enough, since what is said of the files
@@ -47,8 +54,9 @@ LeftAtFirst start first c = (c ≡ start) ⊎ Contains first c
 
 abbrev pub MayLeave : List ℕ → List (List ℕ) → List DiskEvent → List ℕ → Type 0
 MayLeave start first [] c = LeftAtFirst start first c
-MayLeave start first (event ∷ earlier) c = LeftAfter event.0 event.1 event.3 event.4
-    (seen_of start earlier) (MayLeave start first earlier) c
+MayLeave start first (event ∷ earlier) c =
+    LeftAfter event.call event.has_succeeded event.bytes (seen_of start earlier)
+    (MayLeave start first earlier) c
 
 -- what a crash since so many calls may have left
 abbrev pub LeftSince : List ℕ → List (List ℕ) → List DiskEvent → ℕ → List ℕ → Type 0
@@ -63,27 +71,35 @@ one_for false = 1
 -- how many calls failed
 abbrev pub faults_of : List DiskEvent → ℕ
 faults_of [] = 0
-faults_of (event ∷ earlier) = one_for event.3 + faults_of earlier
+faults_of (event ∷ earlier) = one_for event.has_succeeded + faults_of earlier
 
--- the newest call was this kind, and failed
-abbrev pub HasFailed : (ℕ → Type 0) → List DiskEvent → Type 0
-HasFailed kind [] = ⊥
-HasFailed kind (event ∷ earlier) = kind event.0 × (event.3 ≡ false)
+-- the newest call was of this kind, and failed
+abbrev pub HasFailed : (DiskCall → Type 0) → List DiskEvent → Type 0
+HasFailed IsOfKind [] = ⊥
+HasFailed IsOfKind (event ∷ earlier) = IsOfKind event.call × (event.has_succeeded ≡ false)
 
--- the newest call was at a place within the file or at its end, or of a size up to the file's, and
--- failed
+-- the place of a call in the file: where it reads or writes, or the size that it cuts to
+abbrev pub place_of : DiskCall → ℕ
+place_of (call.Read at room) = at
+place_of (call.Written at) = at
+place_of (call.Cut size) = size
+place_of call.Synced = 0
+
+-- the newest call was at a place within the file or at its end, and failed
 abbrev pub HasFailedWithin : List ℕ → List DiskEvent → Type 0
 HasFailedWithin start [] = ⊥
 HasFailedWithin start (event ∷ earlier) =
-    (event.1 ≤ length (seen_of start earlier)) × (event.3 ≡ false)
+    (place_of event.call ≤ length (seen_of start earlier)) × (event.has_succeeded ≡ false)
 
--- the call of this number reads
-abbrev pub ReadsDisk : ℕ → Type 0
-ReadsDisk call = call ≡ 0
+-- the call reads
+abbrev pub ReadsDisk : DiskCall → Type 0
+ReadsDisk (call.Read at room) = ⊤
+ReadsDisk _ = ⊥
 
--- the call of this number writes, cuts, or brings to the disk
-abbrev pub ChangesDisk : ℕ → Type 0
-ChangesDisk call = 1 ≤ call
+-- the call writes, cuts, or brings to the disk
+abbrev pub ChangesDisk : DiskCall → Type 0
+ChangesDisk (call.Read at room) = ⊥
+ChangesDisk _ = ⊤
 
 -- this moment is one of those since an earlier one
 pub counts_now : (start : List ℕ) (first : List (List ℕ)) (events : List DiskEvent) (t : ℕ)

@@ -1,4 +1,3 @@
 pub mod Events
 pub mod Fresh
 pub mod Reasons
-pub mod private

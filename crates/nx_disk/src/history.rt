@@ -3,9 +3,21 @@
 ghost use Rattle.std.specs.Prelude.{◌≡◌, List, [], ◌∷◌, ℕ};
 ghost use Rattle.std.specs.Borrow.{ftrue};
 ghost use Rattle.nx_disk.specs.Events.{DiskEvent};
-ghost use Rattle.nx_disk.specs.private.Noting.{event_of};
 
 use std::marker::{Model, PhantomData};
+
+/// A call of a file: which one, and where.
+#[derive(Drop)]
+pub enum DiskCall {
+    /// It reads from this place on, at most so many bytes.
+    Read { at: usize, room: usize },
+    /// It writes at this place.
+    Written { at: usize },
+    /// It cuts the file to this size.
+    Cut { size: usize },
+    /// It brings the file to the disk.
+    Synced,
+}
 
 /// The calls of a file with their answers, the newest first. It takes no memory.
 #[derive(Drop)]
@@ -27,9 +39,13 @@ impl History {
         }
     }
 
-    /// Notes a call: which one, its place, its room and 1 for a success; and its bytes.
-    pub(crate) fn note(&mut self, _numbers: &[u64], _bytes: &[u8])
-        ensures { self.new.events ≡ event_of _numbers.now _bytes.now ∷ self.old.events }
+    /// Notes a call, whether it succeeded, and the bytes that were read or written.
+    pub(crate) fn note(&mut self, _call: &DiskCall, _has_succeeded: bool, _bytes: &[u8])
+        ensures { self.new.events ≡ record {
+          call = _call.now;
+          has_succeeded = _has_succeeded;
+          bytes = _bytes.now;
+        } ∷ self.old.events }
     {}
 }
 

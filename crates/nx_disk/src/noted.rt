@@ -6,19 +6,11 @@ ghost use Rattle.nx_disk.specs.Events.{Explains, HasFailed, HasFailedWithin, Lef
 ghost use Rattle.nx_disk.specs.Events as events;
 ghost use Rattle.nx_disk.specs.Fresh.{IsFresh};
 
-use crate::history::{History, LeftBefore};
+use crate::history::{DiskCall, History, LeftBefore};
 use nx_kept::{DiskFailed, DiskFile};
 
 /// A file has fewer than 2^63 bytes.
 const MAX_FILE: usize = (1 << 63) - 1;
-
-const READ: u64 = 0;
-
-const WRITTEN: u64 = 1;
-
-const CUT: u64 = 2;
-
-const SYNCED: u64 = 3;
 
 /// The calls of a file. They have no contract: what they do on a disk no clause can say.
 pub trait RawFile {
@@ -109,34 +101,38 @@ impl<F: RawFile> DiskFile for Noted<F> {
         left };
 
     fn read_at(&mut self, at: usize, room: &mut [u8]) -> Result<usize, DiskFailed> {
-        let size = room.len() as u64;
+        let call = DiskCall::Read {
+            at,
+            room: room.len(),
+        };
         if let Ok(count) = self.file.read_at(at as u64, room)
             && at <= MAX_FILE
             && count <= room.len()
             && count <= MAX_FILE - at
         {
-            self.history
-                .note(&[READ, at as u64, size, 1], &room[..count]);
+            self.history.note(&call, true, &room[..count]);
             return Ok(count);
         }
-        self.history.note(&[READ, at as u64, size, 0], &[]);
+        self.history.note(&call, false, &[]);
         Err(DiskFailed)
     }
 
     fn write_at(&mut self, at: usize, bytes: &[u8]) -> Result<(), DiskFailed> {
+        let call = DiskCall::Written { at };
         let answer = write_in_range(&mut self.file, at, bytes);
         match answer {
-            Ok(()) => self.history.note(&[WRITTEN, at as u64, 0, 1], bytes),
-            Err(_) => self.history.note(&[WRITTEN, at as u64, 0, 0], bytes),
+            Ok(()) => self.history.note(&call, true, bytes),
+            Err(_) => self.history.note(&call, false, bytes),
         }
         answer
     }
 
     fn cut(&mut self, size: usize) -> Result<(), DiskFailed> {
+        let call = DiskCall::Cut { size };
         let answer = self.file.cut(size as u64);
         match answer {
-            Ok(()) => self.history.note(&[CUT, size as u64, 0, 1], &[]),
-            Err(_) => self.history.note(&[CUT, size as u64, 0, 0], &[]),
+            Ok(()) => self.history.note(&call, true, &[]),
+            Err(_) => self.history.note(&call, false, &[]),
         }
         answer
     }
@@ -144,8 +140,8 @@ impl<F: RawFile> DiskFile for Noted<F> {
     fn sync(&mut self) -> Result<(), DiskFailed> {
         let answer = self.file.sync();
         match answer {
-            Ok(()) => self.history.note(&[SYNCED, 0, 0, 1], &[]),
-            Err(_) => self.history.note(&[SYNCED, 0, 0, 0], &[]),
+            Ok(()) => self.history.note(&DiskCall::Synced, true, &[]),
+            Err(_) => self.history.note(&DiskCall::Synced, false, &[]),
         }
         answer
     }

@@ -23,13 +23,13 @@ ghost use Rattle.nx_sync.specs.Locks.{IsNow, Lock, Now};
 ghost use Rattle.nx_promises.specs.laws.Together.{IsFoundAt, IsHeaderHeard, IsSeenCut, IsSentIn, heard_with};
 ghost use Rattle.nx_promises.specs.laws.Together.{AreTakenOf, IsCopyOf, IsSeen, Reaches, behind_digit};
 
-/// Through a visible channel a lock holds, whatever bits came before, though both words of a
+/// Over a visible path a lock holds, whatever bits came before, though both words of a
 /// position may be lost. It is the lock that the last 48 phasing words before the first message
-/// leave, and it stands to the last bit. What passes the channel is visible too.
+/// leave, and it stands to the last bit. What passes the path is visible too.
 pub fn a_visible_emission_keeps_its_lock()
     ensures holds { (earlier : List Bool) (emission : ReceivedEmission) → IsSeen emission
         → HoldsThrough earlier emission.heard }
-    ensures channel { (emission : ReceivedEmission) → IsReceived emission → IsSeen emission }
+    ensures received { (emission : ReceivedEmission) → IsReceived emission → IsSeen emission }
 {}
 
 /// Of a copy at the place of a sending that is visible, each position behind the header is as it

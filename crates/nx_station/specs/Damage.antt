@@ -7,7 +7,7 @@ use Rattle.nx_fec.specs.air_files.AirFile.{Line, elements}
 use Rattle.nx_fec.specs.air_files.Channels.{channel_of}
 use Rattle.nx_fec.specs.Transfers.{Contents, Devices, Extent, Transfers, WroteSome, contents_of}
 use Rattle.nx_fec.specs.Transfers.{line_by_line}
-use Rattle.nx_fec.specs.air_files.LineRuns.{HasFaultAfter, HasReadFault, IsPlaced}
+use Rattle.nx_fec.specs.air_files.LineRuns.{HasFaultAfter, HasReadFault, IsCutOnlyAtEnd}
 use Rattle.nx_fec.specs.air_files.Lines.{StopsAt, air_limit, IsAirFile, elements_on, file_of}
 use Rattle.nx_fec.specs.emissions.Emission.{is_dx_slot}
 use Rattle.nx_fec.specs.declared.air_files.channel.Channel.{Channel}
@@ -96,7 +96,7 @@ HasDamaged damage contents lines =
 -- cut line comes only where the bytes of this extent are all.
 abbrev pub StopsFor : Extent → Damage → List ℕ → Contents → LineFault → Type 0
 StopsFor extent damage air contents why =
-    IsPlaced extent.at_end why × HasFaultAfter (HasDamaged damage contents) air why
+    IsCutOnlyAtEnd extent.at_end why × HasFaultAfter (HasDamaged damage contents) air why
 
 -- What a fault says of bytes of this extent of the air file. A failed read comes behind whole lines
 -- and the beginning of one more, and leaves what follows; a fault of the file is its first. The

@@ -3,6 +3,8 @@ use Rattle.std.proofs.Common.{◌≡◌, inl, inr, ℕ, zero, suc, ◌+◌, ◌�
 use Rattle.std.proofs.lemmas.List.{take_at, take_all, drop_at}
 use Rattle.nx_kept.specs.Disk.{Torn, Cut, Follows}
 use Rattle.nx_disk.specs.Events.{DiskEvent, seen_after, seen_of, LeftAfter, MayLeave}
+use Rattle.nx_disk.specs.declared.history.DiskCall.{DiskCall}
+use Rattle.nx_disk.specs.declared.history.DiskCall.TheVariants as call
 
 -- a whole write is one that a crash may leave
 torn_whole : (at : ℕ) (bytes old : List ℕ) → at ≤ length old
@@ -46,29 +48,32 @@ cut_none : (size : ℕ) (old : List ℕ) → Cut size old old
 cut_none size old =
     record { no_shorter = omega arith; front = take_all (length old) old (omega arith) }
 
-left_after : (call at : ℕ) (ok : Bool) (bytes seen : List ℕ) (left : List ℕ → Type 0) → left seen
-    → LeftAfter call at ok bytes seen left (seen_after call at ok bytes seen)
-left_after zero at ok bytes seen left is = is
-left_after (suc zero) at true bytes seen left is = inr refl
-left_after (suc zero) at false bytes seen left is = inr refl
-left_after (suc (suc zero)) size true bytes seen left is = (seen, is, cut_whole size seen)
-left_after (suc (suc zero)) size false bytes seen left is = (seen, is, cut_none size seen)
-left_after (suc (suc (suc more))) at true bytes seen left is = refl
-left_after (suc (suc (suc more))) at false bytes seen left is = is
+left_after : (made : DiskCall) (succeeded : Bool) (bytes seen : List ℕ) (left : List ℕ → Type 0)
+    → left seen
+    → LeftAfter made succeeded bytes seen left (seen_after made succeeded bytes seen)
+left_after (call.Read at room) succeeded bytes seen left is = is
+left_after (call.Written at) true bytes seen left is = inr refl
+left_after (call.Written at) false bytes seen left is = inr refl
+left_after (call.Cut size) true bytes seen left is = (seen, is, cut_whole size seen)
+left_after (call.Cut size) false bytes seen left is = (seen, is, cut_none size seen)
+left_after call.Synced true bytes seen left is = refl
+left_after call.Synced false bytes seen left is = is
 
 pub seen_is_left : (start : List ℕ) (first : List (List ℕ)) (events : List DiskEvent)
     → MayLeave start first events (seen_of start events)
 seen_is_left start first [] = inl refl
-seen_is_left start first (event ∷ earlier) = left_after event.0 event.1 event.3 event.4
-    (seen_of start earlier) (MayLeave start first earlier) (seen_is_left start first earlier)
+seen_is_left start first (event ∷ earlier) =
+    left_after event.call event.has_succeeded event.bytes (seen_of start earlier)
+    (MayLeave start first earlier) (seen_is_left start first earlier)
 
 -- each outcome of a write, whole or torn
 pub write_follows : (start : List ℕ) (first : List (List ℕ)) (events : List DiskEvent) (at : ℕ)
-    (ok : Bool) (bytes : List ℕ)
+    (succeeded : Bool) (bytes : List ℕ)
     → at ≤ length (seen_of start events)
     → Follows (Torn at (length bytes)) (MayLeave start first events)
-    (LeftAfter 1 at ok bytes (seen_of start events) (MayLeave start first events))
-write_follows start first events at ok bytes within c (inl torn) = torn
+    (LeftAfter (call.Written at) succeeded bytes (seen_of start events)
+    (MayLeave start first events))
+write_follows start first events at succeeded bytes within c (inl torn) = torn
 write_follows start first events at true bytes within c (inr is) = (
   seen_of start events,
   seen_is_left start first events,

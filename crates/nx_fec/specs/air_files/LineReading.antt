@@ -5,7 +5,7 @@ use Rattle.std.specs.Prelude.{Option, Some, IsSomeAnd, ⊤}
 use Rattle.std.specs.Io.KnownBytes.{Consumes, IsAtEnd}
 use Rattle.nx_fec.specs.Transfers.{CountedDevice}
 use Rattle.nx_fec.specs.air_files.AirFile.{IsLine, Line}
-use Rattle.nx_fec.specs.air_files.LineRuns.{IsPlaced}
+use Rattle.nx_fec.specs.air_files.LineRuns.{IsCutOnlyAtEnd}
 use Rattle.nx_fec.specs.air_files.Lines.{IsAirFile, IsCause, IsFaultless, Scans, StopsAt, file_of}
 use Rattle.nx_fec.specs.air_files.Scanner.{kind_of}
 use Rattle.nx_fec.specs.declared.fault.AirFault.{AirFault}
@@ -37,7 +37,7 @@ HoldsSame old new = new.reader.ghost_name ≡ old.reader.ghost_name
 
 -- how many answers it gives at most before the end
 abbrev pub answers_left : {R : Type 0} → LineReader R → ℕ
-answers_left reader = 2 * reader.scanner.room + (if reader.is_over then 0 else 1)
+answers_left reader = 2 * reader.scanner.allowance + (if reader.is_over then 0 else 1)
 
 -- Since the input held `first`, these lines were given. They are those of the bytes that were
 -- looked at. The others wait that were read; none does where it said that the piece is used up.
@@ -64,7 +64,7 @@ pub record HasFirstFault {R : Type 0} (remaining : R → Option (List ℕ)) (lim
     : Type 0 where
   pub bytes : List ℕ
   pub consumed : Consumes first (remaining reader.reader.now.inner) bytes
-  pub placed : IsPlaced (IsAtEnd (remaining reader.reader.now.inner)) why
+  pub cut_only_at_end : IsCutOnlyAtEnd (IsAtEnd (remaining reader.reader.now.inner)) why
   pub stops : StopsAt bytes (λ before rest more.
       IsCause limit (length (file_of before ++ rest)) before rest more why × (before ≡ lines))
 

@@ -7,12 +7,12 @@ use Rattle.nx_fec.specs.Transfers.{Extent, HasWritten}
 use Rattle.nx_fec.specs.declared.fault.LineFault.{LineFault}
 use Rattle.nx_fec.specs.declared.fault.LineFault.TheVariants.{TooLong, LineLong, LineCut, BadLine}
 
--- a cut line is a fault only where `AtEnd` holds, and each other fault may come anywhere
-abbrev pub IsPlaced : Type 0 → LineFault → Type 0
-IsPlaced AtEnd TooLong = ⊤
-IsPlaced AtEnd (LineLong line) = ⊤
-IsPlaced AtEnd (LineCut line) = AtEnd
-IsPlaced AtEnd (BadLine line) = ⊤
+-- a line that is cut is a fault only where `AtEnd` holds; each other fault may come anywhere
+abbrev pub IsCutOnlyAtEnd : Type 0 → LineFault → Type 0
+IsCutOnlyAtEnd AtEnd TooLong = ⊤
+IsCutOnlyAtEnd AtEnd (LineLong line) = ⊤
+IsCutOnlyAtEnd AtEnd (LineCut line) = AtEnd
+IsCutOnlyAtEnd AtEnd (BadLine line) = ⊤
 
 -- In bytes of this extent a read may have failed here: behind good lines and the beginning of one
 -- more, within the limit. It leaves what follows, and `holds` holds of the lines.
@@ -44,13 +44,13 @@ pub record HasGiven (old new : Option (List ℕ)) (batch : Waiting) (given : Lis
   pub written : HasWritten old new done batch.sent
   pub whole : given ≡ done ++ batch.bytes
 
--- A taker of lines that stood so at `first` stands so now, after these lines, for which it gave
--- these bytes.
-abbrev pub Standing : Type 0 → Type 1
-Standing T = T → T → List Line → List ℕ → Type 0
+-- Of a taker of lines: that it stood so at first and stands so now, after these lines, for which it
+-- gave these bytes.
+abbrev pub TakerRelation : Type 0 → Type 1
+TakerRelation T = T → T → List Line → List ℕ → Type 0
 
 -- a taker stands so after these lines, and this holds of the bytes that it gave for them
-pub record HasTaken {T : Type 0} (stands : Standing T) (first now : T) (lines : List Line)
+pub record HasTaken {T : Type 0} (stands : TakerRelation T) (first now : T) (lines : List Line)
     (holds : List ℕ → Type 0) : Type 0 where
   pub given : List ℕ
   pub stood : stands first now lines given

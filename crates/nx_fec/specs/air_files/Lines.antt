@@ -114,12 +114,12 @@ pub record IsBitFile (limit : ℕ) (bytes : List ℕ) (bits : List Bool) : Type 
   pub file : IsAirFile limit bytes lines
   pub joined : bits ≡ flat_map (elements_on Zero) lines
 
--- what a scanner of lines holds: the open line, how many lines were ended, how many more bytes it
--- may take, and the line that the last byte ended, if it did
+-- what a scanner of lines holds: the open line, how many lines were ended, how many more bytes the
+-- file may have, and the line that the last byte ended, if it did
 pub record Scanning : Type 0 where
   pub part : List ℕ
   pub lines : ℕ
-  pub room : ℕ
+  pub allowance : ℕ
   pub latest : Option Line
 
 -- a scanner stands so after these bytes, which ended these lines
@@ -127,7 +127,7 @@ pub record Scans (limit : ℕ) (scanner : Scanning) (bytes : List ℕ)
     (lines : List Line) : Type 0 where
   pub splits : Splits bytes lines scanner.part
   pub count : scanner.lines ≡ length lines
-  pub room : scanner.room + length bytes ≡ limit
+  pub allowance : scanner.allowance + length bytes ≡ limit
 
 -- A scanner stands so after these bytes and so many of a piece, which ended no line; and the next
 -- byte is the cause of this fault, whatever follows.

@@ -50,4 +50,4 @@ pub record ScansPiece (old new : Scanning) (piece : List ℕ) (outcome : Result 
     pub latest : OnOk outcome (IfSome new.latest IsLine)
     -- where it ended no line it took the whole piece
     pub whole : IfOk outcome (λ count. new.latest ≡ None → count ≡ length piece)
-    pub room : IfOk outcome (λ count. new.room + count ≡ old.room)
+    pub allowance : IfOk outcome (λ count. new.allowance + count ≡ old.allowance)

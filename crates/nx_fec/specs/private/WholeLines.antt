@@ -18,10 +18,10 @@ pub record TakesLine (old new : Scanning) (piece : List ℕ) (kind : LineKind) (
     pub latest : new.latest ≡ Some line
     pub part : new.part ≡ []
     pub lines : new.lines ≡ old.lines + 1
-    pub room : new.room + count ≡ old.room
+    pub allowance : new.allowance + count ≡ old.allowance
 
 -- it took nothing, but may have opened the next line
 pub record Waits (old new : Scanning) : Type 0 where
   pub part : new.part ≡ old.part
   pub lines : new.lines ≡ old.lines
-  pub room : new.room ≡ old.room
+  pub allowance : new.allowance ≡ old.allowance

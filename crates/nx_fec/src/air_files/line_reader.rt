@@ -173,7 +173,7 @@ impl<'a, R: Read> LineReader<'a, R> {
             (HasFirstFault R.remaining limit first self.new lines) }
         ensures line { IfOk result (SaysLatest (latest_of self.new)) }
         ensures over { IfOk result (SaysOver false (is_over self.new)) }
-        ensures room { OnOk result (self.new.scanner.room < self.old.scanner.room) }
+        ensures allowance { OnOk result (self.new.scanner.allowance < self.old.scanner.allowance) }
         ensures unread { counted_of self.new ≡ counted_of self.old }
         ensures same { HoldsSame self.old self.new }
     {

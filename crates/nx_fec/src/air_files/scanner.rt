@@ -63,8 +63,8 @@ struct Progress {
     ended: Option<LineKind>,
     /// How many lines were ended.
     lines: u64,
-    /// How many more bytes may be taken.
-    room: u64,
+    /// How many more bytes the file may have.
+    allowance: u64,
 }
 
 impl Progress {
@@ -72,16 +72,16 @@ impl Progress {
     /// which aren't counted yet. Answers how many bytes these are.
     #[inline(always)]
     fn end_line(&mut self, kind: LineKind, count: usize) -> usize
-        requires room { count < self.old.room }
-        requires range { self.old.lines + self.old.room < 2 ^ 64 }
+        requires allowance { count < self.old.allowance }
+        requires range { self.old.lines + self.old.allowance < 2 ^ 64 }
         ensures ended { self.new.ended ≡ Some kind }
         ensures lines { self.new.lines ≡ self.old.lines + 1 }
-        ensures room { self.new.room + result ≡ self.old.room }
+        ensures allowance { self.new.allowance + result ≡ self.old.allowance }
         ensures count { result ≡ count + 1 }
     {
         self.ended = Some(kind);
         self.lines += 1;
-        self.room -= count as u64 + 1;
+        self.allowance -= count as u64 + 1;
         count + 1
     }
 }
@@ -98,12 +98,13 @@ impl Model for Scanner {
     ghost view = { λ s. record {
       part = part_of s.progress.ended s.kept;
       lines = s.progress.lines;
-      room = s.progress.room;
+      allowance = s.progress.allowance;
       latest = line_ended s.progress.ended s.elements;
     } };
 
     ghost invariant = { λ s.
-        (s.progress.lines + length (part_of s.progress.ended s.kept) + s.progress.room < 2 ^ 64)
+        (s.progress.lines + length (part_of s.progress.ended s.kept)
+        + s.progress.allowance < 2 ^ 64)
         × IsKept s.progress.ended s.elements s.kept };
 
     // The bytes and the elements of earlier lines that lie behind those that are kept, in their
@@ -111,7 +112,7 @@ impl Model for Scanner {
     ghost inverse = { λ v. record {
       kept = bytes_kept v.latest v.part;
       elements = elements_kept v.latest;
-      progress = record { ended = kind_kept v.latest; lines = v.lines; room = v.room };
+      progress = record { ended = kind_kept v.latest; lines = v.lines; allowance = v.allowance };
     } };
 
     ghost inverse_ok = { λ s h i. record {
@@ -120,7 +121,7 @@ impl Model for Scanner {
       progress = record {
         ended = (kept-back s.progress.ended s.elements s.kept h.1).kind i;
         lines = s.progress.lines;
-        room = s.progress.room;
+        allowance = s.progress.allowance;
       };
     } };
 }
@@ -138,7 +139,7 @@ impl Scanner {
             progress: Progress {
                 ended: None,
                 lines: 0,
-                room: limit,
+                allowance: limit,
             },
         }
     }
@@ -211,7 +212,7 @@ impl Scanner {
             return Ok(piece.len());
         };
         self.go_on(piece, at)?;
-        if self.progress.room == 0 {
+        if self.progress.allowance == 0 {
             return Err(LineFault::TooLong);
         }
         let Some(kind) = read_line(self.kept.as_slice(), &mut self.elements) else {
@@ -233,7 +234,7 @@ impl Scanner {
     {
         if self.progress.ended.is_none()
             || piece.len() < NEAR_BYTES
-            || self.progress.room < NEAR_BYTES as u64
+            || self.progress.allowance < NEAR_BYTES as u64
         {
             return None;
         }
@@ -252,7 +253,7 @@ impl Scanner {
     fn scan_command(&mut self, piece: &[u8]) -> Option<(LineKind, usize)>
         requires empty { self.old.part ≡ [] }
         requires long { NEAR_BYTES ≤ length piece.now }
-        requires room { NEAR_BYTES ≤ self.old.room }
+        requires allowance { NEAR_BYTES ≤ self.old.allowance }
         ensures taken { IfSome result (λ whole.
             TakesLine self.old self.new piece.now whole.0 whole.1) }
         ensures none { IfNone result (self.new ≡ self.old) }
@@ -276,7 +277,7 @@ impl Scanner {
         requires front { piece.now ≡ with_mark (codes "B") mark digits.now }
         requires empty { self.old.part ≡ [] }
         requires long { NEAR_BYTES ≤ length piece.now }
-        requires room { NEAR_BYTES ≤ self.old.room }
+        requires allowance { NEAR_BYTES ≤ self.old.allowance }
         ensures taken { IfSome result (λ whole.
             TakesLine self.old self.new piece.now whole.0 whole.1) }
         ensures none { IfNone result (Waits self.old self.new) }
@@ -304,7 +305,7 @@ impl Scanner {
         requires front { piece.now ≡ codes "T " ++ digits.now }
         requires empty { self.old.part ≡ [] }
         requires long { NEAR_BYTES ≤ length piece.now }
-        requires room { NEAR_BYTES ≤ self.old.room }
+        requires allowance { NEAR_BYTES ≤ self.old.allowance }
         ensures taken { IfSome result (λ whole.
             TakesLine self.old self.new piece.now whole.0 whole.1) }
         ensures none { IfNone result (self.new ≡ self.old) }
@@ -331,7 +332,7 @@ impl Scanner {
             → TakesLine self.old self.new piece.now (LineKind.Elements mark) result }
         ensures none { result ≡ 0 → Waits self.old self.new }
     {
-        if piece.len() < FAR_BYTES || self.progress.room < FAR_BYTES as u64 {
+        if piece.len() < FAR_BYTES || self.progress.allowance < FAR_BYTES as u64 {
             return 0;
         }
         self.open();
@@ -358,17 +359,17 @@ impl Scanner {
             (λ why. StopsIn limit self.new before (take count piece.now) lines why) }
         ensures at_byte { IfErr result IsAtByte }
         ensures latest { self.new.latest ≡ None }
-        ensures room { OnOk result (self.new.room + count ≡ self.old.room) }
+        ensures allowance { OnOk result (self.new.allowance + count ≡ self.old.allowance) }
     {
         self.open();
         let line_room = MAX_LINE_BYTES - self.kept.len();
-        let fitting = (count.min(line_room) as u64).min(self.progress.room) as usize;
+        let fitting = (count.min(line_room) as u64).min(self.progress.allowance) as usize;
         self.kept.append_front(piece, fitting);
-        self.progress.room -= fitting as u64;
+        self.progress.allowance -= fitting as u64;
         if fitting == count {
             return Ok(());
         }
-        if self.progress.room == 0 {
+        if self.progress.allowance == 0 {
             return Err(LineFault::TooLong);
         }
         Err(LineFault::LineLong {
@@ -380,7 +381,7 @@ impl Scanner {
     fn open(&mut self)
         ensures part { self.new.part ≡ self.old.part }
         ensures lines { self.new.lines ≡ self.old.lines }
-        ensures room { self.new.room ≡ self.old.room }
+        ensures allowance { self.new.allowance ≡ self.old.allowance }
         ensures latest { self.new.latest ≡ None }
     {
         if self.progress.ended.is_some() {

@@ -20,7 +20,8 @@ pub enum Piece {
     Bytes(usize),
 }
 
-/// Reads the next piece of the input into a buffer.
+/// Reads the next piece of the input into a buffer, which takes one byte at least. No call on the
+/// reader has failed before.
 pub fn next_piece<R: Read>(reader: &mut Counting<R>, buffer: &mut [u8]) -> Piece
     requires none { reader.old.failures ≡ 0 }
     requires room { 0 < length buffer.old }

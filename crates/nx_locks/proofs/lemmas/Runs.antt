@@ -123,7 +123,7 @@ pub has-few : {R : Type 0} (remaining : R → Option (List ℕ)) (first : Option
 has-few remaining first reader lines line h =
     omega (
       arith,
-      h.scans.room,
+      h.scans.allowance,
       ap length h.scans.splits.whole,
       length-append (file_of (lines ++ line ∷ [])) reader.scanner.part,
       ap length (file_of-one lines line),

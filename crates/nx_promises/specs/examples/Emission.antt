@@ -1,5 +1,5 @@
 -- A worked emission: the station E sends the message EA01 with the one line TEST in its slot, as
--- the channel's example has it. And what a receiver prints of it.
+-- the path's example has it. And what a receiver prints of it.
 use Rattle.std.specs.Prelude.{ℕ, List, [], ◌++◌, map, codes}
 use Rattle.nx_fec.specs.emissions.Emission.{bits_of}
 use Rattle.nx_station.specs.reception.Path.{phasing_words}

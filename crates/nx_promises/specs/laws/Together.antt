@@ -1,5 +1,5 @@
--- Sendings that are taken together: a channel that may lose both words of a position, and what is
--- received of an emission through it (this profile).
+-- Sendings that are taken together: a path that may lose both words of a position, and what is
+-- received of an emission over it (this profile).
 use Rattle.std.specs.Prelude.{◌≡◌, ℕ, ◌+◌, ◌-◌, ◌<◌, ◌≤◌, ◌⊎◌, Bool, true, false, List, [], ◌∷◌}
 use Rattle.std.specs.Prelude.{◌++◌, length, Contains, drop, slice_get, take, Some}
 use Rattle.std.specs.List.{AllByRecursion, AllZip, flat_map}

@@ -56,7 +56,7 @@ pub struct Report {
 /// Where it answers Ok, each message that is heard in time on a channel of the file has exactly one
 /// entry of that channel in the log. The entry is full, and has 0 errors and the message's text
 /// letter for letter. A message heard in time is not numbered 00, and is selected whenever it is
-/// sent. Its sendings all lie within 66 hours and pass the channel while 200 identities suffice.
+/// sent. Its sendings all lie within 66 hours and pass the path while 200 identities suffice.
 /// Nothing else of its identity is found on that channel.
 ///
 /// The first fault in the order of the bytes ends the run; the line that has it has no effect.

@@ -1,6 +1,5 @@
--- The path of an emission, which the headline calls its channel: in which words it may be received
--- (this profile). Words are those of slots; what arrives of the slots before the first slot belongs
--- to the gap before the emission.
+-- The path of an emission: in which words it may be received (this profile). Words are those of
+-- slots; what arrives of the slots before the first slot belongs to the gap before the emission.
 use Rattle.std.specs.Prelude.{◌≡◌, ◌≢◌, ℕ, zero, suc, ◌+◌, ◌-◌, ◌<◌, ◌≤◌, ◌⊎◌, List, [], ◌∷◌, length, slice_index}
 use Rattle.nx_code.specs.Table.{phasing_1, phasing_2}
 use Rattle.nx_code.specs.Word.{HasWrongWeight}
@@ -35,13 +34,13 @@ heard_in heard slot = slice_index heard (slot - first_slot)
 abbrev pub IsAsSent : List SentPosition → List ℕ → ℕ → Type 0
 IsAsSent positions heard slot = heard_in heard slot ≡ word_sent positions slot
 
--- The emission of these positions passes the channel, and what is heard of it are these words, each
+-- The emission of these positions passes the path, and what is heard of it are these words, each
 -- by its number. They are the words of all slots from the first slot on to the last. In the slots
 -- before the first message each word is heard as it was sent. In each later slot it is heard as it
 -- was sent, or a word of the wrong weight is heard in its place. Of each position behind the first
 -- phasing, but for those of the end, one word at least is heard as it was sent: that of its DX slot
 -- or that of its RX slot.
-pub record PassesChannel (positions : List SentPosition) (heard : List ℕ) : Type 0 where
+pub record PassesPath (positions : List SentPosition) (heard : List ℕ) : Type 0 where
   pub words : AreWords heard
   pub whole : first_slot + length heard ≡ slots_of positions
   pub phasing : (slot : ℕ) → first_slot ≤ slot → slot < message_slot

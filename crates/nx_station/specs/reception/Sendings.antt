@@ -9,7 +9,7 @@ use Rattle.nx_code.specs.declared.shifts.Shift.TheVariants.{Figures}
 use Rattle.nx_fec.specs.emissions.Emission.{SentPosition, bits_of, rx_slot, traffic_position, end_positions}
 use Rattle.nx_envelope.specs.Message.{AreLines, MessageView, text_of}
 use Rattle.nx_station.specs.Broadcast.{IsSpelled, ending, first_phasing, further_phasing, head, layout}
-use Rattle.nx_station.specs.reception.Path.{PassesChannel, first_slot}
+use Rattle.nx_station.specs.reception.Path.{PassesPath, first_slot}
 
 -- The combinations tell the message: its head, any that print its text from the figure shift, and
 -- its end (ITU-R M.540).
@@ -27,12 +27,12 @@ pub record ReceivedEmission : Type 0 where
   pub spellings : List (List ℕ)
   pub heard : List ℕ
 
--- the messages have good lines, these combinations tell them, and their emission passes the channel
--- as these words
+-- the messages have good lines, these combinations tell them, and their emission passes the path as
+-- these words
 pub record IsReceived (emission : ReceivedEmission) : Type 0 where
   pub sound : AllByRecursion (λ (message : MessageView). AreLines message.lines) emission.messages
   pub told : AllZip TellsMessage emission.messages emission.spellings
-  pub passes : PassesChannel (layout emission.spellings) emission.heard
+  pub passes : PassesPath (layout emission.spellings) emission.heard
 
 -- a part of a list of bits: a gap of any bits, or an emission that is received
 pub data Part : Type 0 where

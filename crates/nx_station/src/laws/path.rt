@@ -7,7 +7,7 @@ ghost use Rattle.nx_envelope.specs.Message.{MessageView};
 ghost use Rattle.nx_fec.specs.emissions.Emission.{SentPosition, bits_of, emission, position_at, reception, slots_of, word_sent, end_positions};
 ghost use Rattle.nx_fec.specs.emissions.Pairing.{counts_as, pairing};
 ghost use Rattle.nx_station.specs.Broadcast.{AreSpelled, IsBroadcast, digit_combination, layout};
-ghost use Rattle.nx_station.specs.reception.Path.{PassesChannel, first_slot, heard_in, message_slot, most_wrong, phasing_received, phasing_words, word_span};
+ghost use Rattle.nx_station.specs.reception.Path.{PassesPath, first_slot, heard_in, message_slot, most_wrong, phasing_received, phasing_words, word_span};
 ghost use Rattle.nx_station.specs.reception.PathExample.{example_emission, example_numbers, example_parts, example_sending, heard_half, heard_without_75};
 ghost use Rattle.nx_station.specs.Sendable.{IsSendable};
 ghost use Rattle.nx_station.specs.reception.Sendings.{IsCut, IsReceived, IsSending, ReceivedEmission, StandsFrom, digit_slot, positions_before};
@@ -18,17 +18,17 @@ ghost use Rattle.nx_station.specs.reception.Sendings.{IsCut, IsReceived, IsSendi
 /// lock that is the first of the first message.
 pub fn few_words_are_wrong()
     ensures few { (messages : List MessageView) (positions : List SentPosition) (heard : List ℕ)
-        → IsBroadcast messages positions → PassesChannel positions heard
+        → IsBroadcast messages positions → PassesPath positions heard
         → (first n : ℕ) → n ≤ word_span
         → count_by is_wrong (take n (drop first heard)) ≤ most_wrong }
     ensures by_slots { (messages : List MessageView) (positions : List SentPosition)
         (heard : List ℕ)
-        → IsBroadcast messages positions → PassesChannel positions heard
+        → IsBroadcast messages positions → PassesPath positions heard
         → (slot n : ℕ) → first_slot ≤ slot → n ≤ word_span → slot + n ≤ slots_of positions
         → wrong_in (heard_in heard) slot n ≤ most_wrong }
     ensures in_a_lock { (messages : List MessageView) (positions : List SentPosition)
         (heard : List ℕ)
-        → IsBroadcast messages positions → PassesChannel positions heard
+        → IsBroadcast messages positions → PassesPath positions heard
         → (words : ℕ → ℕ) (whole : ℕ)
         → ((k slot : ℕ) → k + message_slot ≡ slot + whole → first_slot ≤ slot
         → slot < slots_of positions
@@ -43,7 +43,7 @@ pub fn few_words_are_wrong()
 /// phasing signal.
 pub fn no_phasing_1_before_the_end()
     ensures { (messages : List MessageView) (positions : List SentPosition) (heard : List ℕ)
-        → IsBroadcast messages positions → PassesChannel positions heard
+        → IsBroadcast messages positions → PassesPath positions heard
         → (i : ℕ) → first_slot ≤ 2 * i → i + end_positions < length positions
         → heard_in heard (2 * i) ≢ phasing_1 }
 {}
@@ -52,7 +52,7 @@ pub fn no_phasing_1_before_the_end()
 /// was sent: from its two words, in the slots 2i and 2i+5.
 pub fn positions_are_taken_as_sent()
     ensures { (messages : List MessageView) (positions : List SentPosition) (heard : List ℕ)
-        → IsBroadcast messages positions → PassesChannel positions heard
+        → IsBroadcast messages positions → PassesPath positions heard
         → (i : ℕ) → first_slot ≤ 2 * i → i + end_positions < length positions
         → pairing (counts_as (heard_in heard (2 * i))) (counts_as (heard_in heard (2 * i + 5)))
         ≡ reception (position_at positions i) }
@@ -62,10 +62,10 @@ pub fn positions_are_taken_as_sent()
 /// that is heard stands in the bits, whatever stands before and after.
 pub fn words_stand_in_the_bits()
     ensures phasing { (messages : List MessageView) (positions : List SentPosition) (heard : List ℕ)
-        → IsBroadcast messages positions → PassesChannel positions heard
+        → IsBroadcast messages positions → PassesPath positions heard
         → take (2 * phasing_received) heard ≡ phasing_words phasing_received }
     ensures word { (messages : List MessageView) (positions : List SentPosition) (heard : List ℕ)
-        → IsBroadcast messages positions → PassesChannel positions heard
+        → IsBroadcast messages positions → PassesPath positions heard
         → (before after : List Bool) (slot : ℕ) → first_slot ≤ slot → slot < slots_of positions
         → word_from (before ++ (bits_of heard ++ after)) (length before + 7 * (slot - first_slot))
         ≡ heard_in heard slot }
@@ -95,13 +95,13 @@ pub fn messages_stand_in_their_emission()
 pub fn an_undamaged_emission_is_received()
     ensures passes { (messages : List MessageView) (positions : List SentPosition)
         → messages ≢ [] → IsBroadcast messages positions
-        → PassesChannel positions (drop first_slot (emission positions)) }
+        → PassesPath positions (drop first_slot (emission positions)) }
     ensures cut { (positions : List SentPosition) → bits_of (emission positions)
         ≡ bits_of (take first_slot (emission positions))
         ++ bits_of (drop first_slot (emission positions)) }
     ensures received { (emission : ReceivedEmission) → IsSendable emission.messages
         → AreSpelled emission.messages emission.spellings
-        → PassesChannel (layout emission.spellings) emission.heard → IsReceived emission }
+        → PassesPath (layout emission.spellings) emission.heard → IsReceived emission }
 {}
 
 /// The definitions at a worked emission, of EA01 with the line TEST. It is received where the first
@@ -114,5 +114,5 @@ pub fn an_example_is_received()
         → IsCut (before ++ (bits_of heard_half ++ after)) (example_parts before after) }
     ensures sending { (before after : List Bool)
         → IsSending (example_parts before after) (example_sending before) }
-    ensures outside { PassesChannel (layout (example_numbers ∷ [])) heard_without_75 → ⊥ }
+    ensures outside { PassesPath (layout (example_numbers ∷ [])) heard_without_75 → ⊥ }
 {}

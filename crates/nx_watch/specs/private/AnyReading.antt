@@ -22,7 +22,7 @@ waiting lines = lines.piece
 
 -- how many more bytes it can look at
 abbrev pub reach : AnyLines → ℕ
-reach lines = lines.scanner.scanner.room
+reach lines = lines.scanner.scanner.allowance
 
 -- the line that was given last, if it is one of an air file
 abbrev pub latest_of : AnyLines → Option Line

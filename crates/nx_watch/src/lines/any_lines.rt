@@ -52,7 +52,7 @@ impl AnyLines {
     /// A reader of the lines of at most so many bytes. It reads nothing yet.
     pub(crate) fn new(limit: u64) -> AnyLines
         ensures stands { IsScanning result.scanner [] [] }
-        ensures scanner { result.scanner.scanner.room ≡ most_bytes }
+        ensures scanner { result.scanner.scanner.allowance ≡ most_bytes }
         ensures piece { result.piece ≡ [] }
         ensures room { result.room ≡ limit }
     {
@@ -66,13 +66,13 @@ impl AnyLines {
     /// Gives the next line, or says that all lines are given of the bytes that were read.
     #[inline(always)]
     pub(crate) fn next(&mut self) -> AnyLine
-        requires room { length self.old.piece ≤ self.old.scanner.scanner.room }
-        requires within { self.old.scanner.scanner.room ≤ most_bytes }
+        requires room { length self.old.piece ≤ self.old.scanner.scanner.allowance }
+        requires within { self.old.scanner.scanner.allowance ≤ most_bytes }
         ensures looks { LooksOn self.old self.new result }
         ensures line { SaysLine self.new.scanner.scanner.latest result }
-        ensures room { self.old.scanner.scanner.room + length self.new.piece
-            ≤ self.new.scanner.scanner.room + length self.old.piece }
-        ensures within { self.new.scanner.scanner.room ≤ most_bytes }
+        ensures room { self.old.scanner.scanner.allowance + length self.new.piece
+            ≤ self.new.scanner.scanner.allowance + length self.old.piece }
+        ensures within { self.new.scanner.scanner.allowance ≤ most_bytes }
         ensures unread { self.new.room ≡ self.old.room }
     {
         if self.piece.is_empty() {

@@ -47,7 +47,7 @@ impl AnyScanner {
         ensures stands { IsScanning result [] [] }
         ensures fresh { Scans most_bytes result.scanner [] [] }
         ensures starts { result.is_passing ≡ false }
-        ensures room { result.scanner.room ≡ most_bytes }
+        ensures room { result.scanner.allowance ≡ most_bytes }
     {
         AnyScanner {
             scanner: Scanner::new(MOST_BYTES),
@@ -61,8 +61,8 @@ impl AnyScanner {
     pub(crate) fn take(&mut self, piece: &[u8]) -> (usize, Ended)
         requires some { 0 < length piece.now }
         requires short { length piece.now ≤ CHUNK }
-        requires room { length piece.now ≤ self.old.scanner.room }
-        requires within { self.old.scanner.room ≤ most_bytes }
+        requires room { length piece.now ≤ self.old.scanner.allowance }
+        requires within { self.old.scanner.allowance ≤ most_bytes }
         ensures scans { (bytes : List ℕ) (lines : List (Option Line))
             → IsScanning self.old bytes lines
             → IsScanning self.new (bytes ++ take result.0 piece.now)
@@ -74,8 +74,8 @@ impl AnyScanner {
         ensures some { 0 < result.0 }
         ensures all { result.0 ≤ length piece.now }
         ensures whole { result.1 ≡ Nothing → result.0 ≡ length piece.now }
-        ensures room { self.old.scanner.room ≤ self.new.scanner.room + result.0 }
-        ensures within { self.new.scanner.room ≤ most_bytes }
+        ensures room { self.old.scanner.allowance ≤ self.new.scanner.allowance + result.0 }
+        ensures within { self.new.scanner.allowance ≤ most_bytes }
     {
         if self.is_passing {
             return self.pass(piece, NoEffect::TooLong);
@@ -104,7 +104,7 @@ impl AnyScanner {
         ensures some { 0 < result.0 }
         ensures all { result.0 ≤ length piece.now }
         ensures whole { result.1 ≡ Nothing → result.0 ≡ length piece.now }
-        ensures room { self.new.scanner.room ≡ most_bytes }
+        ensures room { self.new.scanner.allowance ≡ most_bytes }
     {
         *self = AnyScanner::new();
         match memchr(NEWLINE, piece) {

@@ -16,7 +16,7 @@ use Rattle.nx_fec.specs.emissions.Pairing.{counts_as, pairing}
 use Rattle.nx_fec.proofs.lemmas.emissions.Emission.{word_sent-dx, word_sent-rx}
 use Rattle.nx_fec.proofs.lemmas.emissions.RoundTrip.{length-bits_of}
 use Rattle.nx_station.specs.Broadcast.{layout, phasing_and_message}
-use Rattle.nx_station.specs.reception.Path.{PassesChannel, heard_in, first_slot}
+use Rattle.nx_station.specs.reception.Path.{PassesPath, heard_in, first_slot}
 use Rattle.nx_station.specs.reception.Sendings.{IsReceived, digit_slot}
 use Rattle.nx_code.proofs.lemmas.WordCounts.{wrong_in-same}
 use Rattle.nx_station.proofs.lemmas.reception.PathLaws.{few-wrong, no-phasing_1, taken-as_sent}
@@ -41,7 +41,7 @@ word_of-heard_in heard i = let e : 96 + i - 96 ≡ i = omega arith in
 
 module _ (numbers : List ℕ) (spellings : List (List ℕ)) (heard : List ℕ)
     (has : HasInner (layout (numbers ∷ spellings)))
-    (passes : PassesChannel (layout (numbers ∷ spellings)) heard) where
+    (passes : PassesPath (layout (numbers ∷ spellings)) heard) where
   abbrev sent : List SentPosition
   sent = layout (numbers ∷ spellings)
 

@@ -19,7 +19,7 @@ use Rattle.nx_fec.specs.declared.air_files.line_reader.NextLine.TheVariants as n
 use Rattle.nx_fec.specs.declared.fault.AirFault.{AirFault}
 use Rattle.nx_fec.specs.declared.fault.AirFault.TheVariants as air
 use Rattle.nx_fec.specs.declared.fault.LineFault.{LineFault}
-use Rattle.nx_fec.proofs.lemmas.line_runs.LineRun.{IsPlaced-at_byte, IsPlaced-end, StopsAt-cause}
+use Rattle.nx_fec.proofs.lemmas.line_runs.LineRun.{IsCutOnlyAtEnd-at_byte, IsCutOnlyAtEnd-end, StopsAt-cause}
 use Rattle.nx_fec.proofs.lemmas.line_runs.LineRun.{StopsAt-end}
 use Rattle.nx_fec.proofs.lemmas.lines.ReadingLaws.{Scans-faultless}
 
@@ -81,7 +81,7 @@ module _ {R : Type 0} (remaining : R → Option (List ℕ)) (limit : ℕ) (first
         (sym same)
         (subst (λ l. Consumes first (remaining old.reader.now.inner) l)
         (sym (append-nil (h.looked_at ++ old.piece))) h.consumed);
-    placed = IsPlaced-at_byte _ why at_byte;
+    cut_only_at_end = IsCutOnlyAtEnd-at_byte _ why at_byte;
     stops = StopsAt-cause limit new.scanner h.looked_at old.piece lines why
         (λ before. before ≡ lines)
         (subst (λ l. StopsIn limit new.scanner h.looked_at l lines why) is stops) refl [];
@@ -105,7 +105,7 @@ module _ {R : Type 0} (remaining : R → Option (List ℕ)) (limit : ℕ) (first
   end-fault old new lines why keeps end none h cause = record {
     bytes = h.looked_at;
     consumed = Consumes-kept _ _ _ h.looked_at (looked-all old lines h none) keeps;
-    placed = IsPlaced-end _ why end;
+    cut_only_at_end = IsCutOnlyAtEnd-end _ why end;
     stops = StopsAt-end limit old.scanner h.looked_at lines _ h.scans (
       subst (λ l. IsCause limit (length l) lines old.scanner.part [] why) h.scans.splits.whole
           cause,
@@ -131,7 +131,7 @@ taken-all piece rest new count is all dropped =
 
 -- fewer answers are left behind the next one of a piece
 pub fewer-on : {R : Type 0} (old new : LineReader R) (given : NextLine)
-    → SaysOver false new.is_over given → new.scanner.room < old.scanner.room
+    → SaysOver false new.is_over given → new.scanner.allowance < old.scanner.allowance
     → LeavesFewer (answers_left old) (answers_left new) given
 fewer-on old new (next.Line kind) over less =
     omega (arith, less, ap {B = ℕ} (λ b. if b then 0 else 1) over)

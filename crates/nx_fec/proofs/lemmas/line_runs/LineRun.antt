@@ -12,18 +12,19 @@ use Rattle.nx_fec.specs.Transfers.{HasWritten}
 use Rattle.nx_fec.specs.air_files.Lines.{IsAtByte, IsCause, Scanning, Scans, StopsIn, file_of}
 use Rattle.nx_fec.specs.air_files.Lines.{StopsAt, line_bytes}
 use Rattle.nx_fec.specs.air_files.LineRuns.{HasGiven, HasTaken}
-use Rattle.nx_fec.specs.air_files.LineRuns.{IsPlaced}
-use Rattle.nx_fec.specs.air_files.LineRuns.{Standing, Waiting}
+use Rattle.nx_fec.specs.air_files.LineRuns.{IsCutOnlyAtEnd}
+use Rattle.nx_fec.specs.air_files.LineRuns.{TakerRelation, Waiting}
 use Rattle.nx_fec.specs.declared.fault.LineFault.{LineFault}
 use Rattle.nx_fec.specs.declared.fault.LineFault.TheVariants.{TooLong, LineLong, LineCut, BadLine}
 use Rattle.nx_fec.proofs.lemmas.devices.Piece.{piece-parts}
 use Rattle.nx_fec.proofs.lemmas.lines.ReadingLaws.{IsCause-more}
 
-pub IsPlaced-at_byte : (AtEnd : Type 0) (why : LineFault) → IsAtByte why → IsPlaced AtEnd why
-IsPlaced-at_byte AtEnd TooLong at = tt
-IsPlaced-at_byte AtEnd (LineLong line) at = tt
-IsPlaced-at_byte AtEnd (LineCut line) at = absurd at
-IsPlaced-at_byte AtEnd (BadLine line) at = tt
+pub IsCutOnlyAtEnd-at_byte : (AtEnd : Type 0) (why : LineFault) → IsAtByte why
+    → IsCutOnlyAtEnd AtEnd why
+IsCutOnlyAtEnd-at_byte AtEnd TooLong at = tt
+IsCutOnlyAtEnd-at_byte AtEnd (LineLong line) at = tt
+IsCutOnlyAtEnd-at_byte AtEnd (LineCut line) at = absurd at
+IsCutOnlyAtEnd-at_byte AtEnd (BadLine line) at = tt
 
 -- the file of one line more
 pub file_of-one : (lines : List Line) (line : Line)
@@ -82,15 +83,16 @@ StopsAt-end limit s bytes lines P scans here =
 
 pub scanned-within : (limit : ℕ) (s : Scanning) (bytes : List ℕ) (lines : List Line)
     → Scans limit s bytes lines → length (file_of lines ++ s.part) ≤ limit
-scanned-within limit s bytes lines scans = omega (arith, scans.room, ap length scans.splits.whole)
+scanned-within limit s bytes lines scans =
+    omega (arith, scans.allowance, ap length scans.splits.whole)
 
-pub IsPlaced-end : (AtEnd : Type 0) (why : LineFault) → AtEnd → IsPlaced AtEnd why
-IsPlaced-end AtEnd TooLong end = tt
-IsPlaced-end AtEnd (LineLong line) end = tt
-IsPlaced-end AtEnd (LineCut line) end = end
-IsPlaced-end AtEnd (BadLine line) end = tt
+pub IsCutOnlyAtEnd-end : (AtEnd : Type 0) (why : LineFault) → AtEnd → IsCutOnlyAtEnd AtEnd why
+IsCutOnlyAtEnd-end AtEnd TooLong end = tt
+IsCutOnlyAtEnd-end AtEnd (LineLong line) end = tt
+IsCutOnlyAtEnd-end AtEnd (LineCut line) end = end
+IsCutOnlyAtEnd-end AtEnd (BadLine line) end = tt
 
-pub HasTaken-map : {T : Type 0} (stands : Standing T) (first now : T) (lines : List Line)
+pub HasTaken-map : {T : Type 0} (stands : TakerRelation T) (first now : T) (lines : List Line)
     (P Q : List ℕ → Type 0) → ((given : List ℕ) → P given → Q given)
     → HasTaken stands first now lines P → HasTaken stands first now lines Q
 HasTaken-map stands first now lines P Q f h =
@@ -121,7 +123,7 @@ pub last-within : (limit : ℕ) (s : Scanning) (bytes : List ℕ) (lines : List 
 last-within limit s bytes lines line scans =
     omega (
       arith,
-      scans.room,
+      scans.allowance,
       ap length scans.splits.whole,
       length-append (file_of (lines ++ line ∷ [])) s.part,
       ap length (file_of-one lines line),
@@ -157,18 +159,18 @@ StopsAt-more ys P Q bytes f h = record {
   here = f h.lines h.rest h.more h.here;
 }
 
-pub IsPlaced-left : (ys : List ℕ) (why : LineFault) → IsPlaced (ys ≡ []) why
+pub IsCutOnlyAtEnd-left : (ys : List ℕ) (why : LineFault) → IsCutOnlyAtEnd (ys ≡ []) why
     → IsAtByte why ⊎ (ys ≡ [])
-IsPlaced-left ys TooLong h = inl tt
-IsPlaced-left ys (LineLong line) h = inl tt
-IsPlaced-left ys (LineCut line) h = inr h
-IsPlaced-left ys (BadLine line) h = inl tt
+IsCutOnlyAtEnd-left ys TooLong h = inl tt
+IsCutOnlyAtEnd-left ys (LineLong line) h = inl tt
+IsCutOnlyAtEnd-left ys (LineCut line) h = inr h
+IsCutOnlyAtEnd-left ys (BadLine line) h = inl tt
 
-pub IsPlaced-any : (why : LineFault) → IsPlaced (Unit {0}) why
-IsPlaced-any TooLong = tt
-IsPlaced-any (LineLong line) = tt
-IsPlaced-any (LineCut line) = tt
-IsPlaced-any (BadLine line) = tt
+pub IsCutOnlyAtEnd-any : (why : LineFault) → IsCutOnlyAtEnd (Unit {0}) why
+IsCutOnlyAtEnd-any TooLong = tt
+IsCutOnlyAtEnd-any (LineLong line) = tt
+IsCutOnlyAtEnd-any (LineCut line) = tt
+IsCutOnlyAtEnd-any (BadLine line) = tt
 
 pub cause-longer : (limit front : ℕ) (lines : List Line) (rest more ys : List ℕ) (why : LineFault)
     → IsAtByte why ⊎ (ys ≡ []) → IsCause limit front lines rest more why

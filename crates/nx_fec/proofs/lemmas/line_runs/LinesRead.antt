@@ -8,13 +8,13 @@ use Rattle.std.proofs.lemmas.Option.{IfSome_then}
 use Rattle.nx_fec.specs.Transfers.{Extent, Input, Reads, read_from, read_to, whole_input}
 use Rattle.nx_fec.specs.air_files.AirFile.{IsLine, Line, spelling}
 use Rattle.nx_fec.specs.air_files.LineReading.{HasFirstFault, HasGivenAll, HasGivenLines}
-use Rattle.nx_fec.specs.air_files.LineRuns.{IsPlaced}
+use Rattle.nx_fec.specs.air_files.LineRuns.{IsCutOnlyAtEnd}
 use Rattle.nx_fec.specs.air_files.Lines.{IsAirFile, IsCause, IsLineRefused, StopsAt, file_of}
 use Rattle.nx_fec.specs.declared.air_files.line_reader.LineReader.{LineReader}
 use Rattle.nx_fec.specs.declared.fault.LineFault.{LineFault}
 use Rattle.nx_fec.proofs.lemmas.devices.TransferLaws.{IfSome-end, IfSome-front, read_failed-none}
 use Rattle.nx_fec.proofs.lemmas.line_runs.LineReading.{looked-all}
-use Rattle.nx_fec.proofs.lemmas.line_runs.LineRun.{All-front, IsPlaced-any, IsPlaced-left, StopsAt-end}
+use Rattle.nx_fec.proofs.lemmas.line_runs.LineRun.{All-front, IsCutOnlyAtEnd-any, IsCutOnlyAtEnd-left, StopsAt-end}
 use Rattle.nx_fec.proofs.lemmas.line_runs.LineRun.{StopsAt-more, StopsAt-scans}
 use Rattle.nx_fec.proofs.lemmas.line_runs.LineRun.{cause-longer, file_of-one, last-within}
 use Rattle.nx_fec.proofs.lemmas.line_runs.LineRun.{scanned-within}
@@ -28,7 +28,7 @@ IsUnread limit lines extent bytes = StopsAt bytes (λ before rest more.
 -- there comes this fault, which is the first
 abbrev pub IsFaulty : ℕ → List Line → LineFault → Extent → List ℕ → Type 0
 IsFaulty limit lines why extent bytes =
-    IsPlaced extent.at_end why × StopsAt bytes (λ before rest more.
+    IsCutOnlyAtEnd extent.at_end why × StopsAt bytes (λ before rest more.
     IsCause limit (length (file_of before ++ rest)) before rest more why × (before ≡ lines))
 
 -- there comes this line, of this number
@@ -59,9 +59,9 @@ faulty-file limit lines why None after bytes consumed h = tt
 faulty-file limit lines why (Some xs) None bytes consumed h = absurd consumed
 faulty-file limit lines why (Some xs) (Some ys) bytes consumed h =
     subst (IsFaulty limit lines why whole_input) (sym consumed) (
-      IsPlaced-any why,
+      IsCutOnlyAtEnd-any why,
       StopsAt-more ys _ _ bytes (λ before rest more k. (
-        cause-longer limit _ before rest more ys why (IsPlaced-left ys why h.0) k.0,
+        cause-longer limit _ before rest more ys why (IsCutOnlyAtEnd-left ys why h.0) k.0,
         k.1,
       )) h.1,
     )
@@ -147,7 +147,7 @@ module _ {R N F : Type 0} (i : Input R) (read : F) (behind : F → List ℕ → 
         → Reads i read behind outcome answers
     read-fault why h none other clean knows =
         let faulty : IsFaulty limit lines why (read_from i) h.bytes = (
-          subst (λ r. IsPlaced (IsAtEnd (i.remaining r.inner)) why) same h.placed,
+          subst (λ r. IsCutOnlyAtEnd (IsAtEnd (i.remaining r.inner)) why) same h.cut_only_at_end,
           h.stops,
         ) in
         record {

@@ -17,15 +17,15 @@ pub piece-taken : (old new : Scanning) (piece : List ℕ) (count : ℕ)
     → ((limit : ℕ) (before : List ℕ) (lines : List Line) → Scans limit old before lines
     → Scans limit new (before ++ take count piece) (lines ++ option_to_list new.latest))
     → 0 < count → count ≤ length piece → IfSome new.latest IsLine
-    → (new.latest ≡ None → count ≡ length piece) → new.room + count ≡ old.room
+    → (new.latest ≡ None → count ≡ length piece) → new.allowance + count ≡ old.allowance
     → ScansPiece old new piece (Ok count)
-piece-taken old new piece count bytes some within latest whole room = record {
+piece-taken old new piece count bytes some within latest whole allowance = record {
   bytes = bytes;
   at_byte = tt;
   some = (some, within);
   latest = latest;
   whole = whole;
-  room = room;
+  allowance = allowance;
 }
 
 -- it stopped at a byte
@@ -39,7 +39,7 @@ piece-stopped old new piece why bytes at_byte = record {
   some = tt;
   latest = tt;
   whole = tt;
-  room = tt;
+  allowance = tt;
 }
 
 -- it took the bytes of the line with which the piece begins, and its line feed
@@ -58,10 +58,10 @@ scans-whole limit old new before piece lines kind count h s = record {
     part = subst IsBeginning (sym h.part) (record { none = tt; short = omega arith });
   };
   count = h.lines ∙ ap (λ n. n + 1) s.count ∙ sym (length-append lines (h.line ∷ []));
-  room = omega (
+  allowance = omega (
     arith,
-    s.room,
-    h.room,
+    s.allowance,
+    h.allowance,
     length-append before (take count piece),
     length-take-le count piece h.within,
   );
@@ -75,7 +75,7 @@ piece-whole old new piece kind count some h =
     (λ o. Scans limit new (before ++ take count piece) (lines ++ option_to_list o)) (sym h.latest)
     (scans-whole limit old new before piece lines kind count h s))
     some h.within (subst (λ o. IfSome o IsLine) (sym h.latest) h.good)
-    (λ none. let no : Some h.line ≡ None = sym h.latest ∙ none in absurd (cc)) h.room
+    (λ none. let no : Some h.line ≡ None = sym h.latest ∙ none in absurd (cc)) h.allowance
 
 -- where it took nothing at first, it scans the piece from there
 pub piece-waited : (old mid new : Scanning) (piece : List ℕ) (outcome : Result ℕ LineFault)
@@ -88,11 +88,12 @@ piece-waited old mid new piece outcome w h = record {
       part = subst IsBeginning (sym w.part) s.splits.part;
     };
     count = w.lines ∙ s.count;
-    room = omega (arith, w.room, s.room);
+    allowance = omega (arith, w.allowance, s.allowance);
   });
   at_byte = h.at_byte;
   some = h.some;
   latest = h.latest;
   whole = h.whole;
-  room = subst (λ n. IfOk outcome (λ count. new.room + count ≡ n)) w.room h.room;
+  allowance = subst (λ n. IfOk outcome (λ count. new.allowance + count ≡ n)) w.allowance
+      h.allowance;
 }

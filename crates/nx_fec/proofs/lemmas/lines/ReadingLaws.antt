@@ -14,7 +14,12 @@ use Rattle.nx_fec.specs.declared.fault.RunFault.TheVariants.{Read}
 pub Scans-faultless : (limit : ℕ) (scanner : Scanning) (bytes : List ℕ) (lines : List Line)
     → Scans limit scanner bytes lines → IsFaultless limit bytes
 Scans-faultless limit scanner bytes lines h =
-    record { lines = lines; rest = scanner.part; splits = h.splits; within = omega (arith, h.room) }
+    record {
+      lines = lines;
+      rest = scanner.part;
+      splits = h.splits;
+      within = omega (arith, h.allowance);
+    }
 
 -- a cause after good lines and the beginning of one more is a fault of the file
 pub HasFault-cause : (limit : ℕ) (bytes : List ℕ) (lines : List Line) (rest more : List ℕ)

@@ -17,10 +17,10 @@ use Rattle.nx_fec.proofs.lemmas.lines.LineLaws.{NoFeed}
 -- it took some of these, of which none is a line feed, and first opened a line
 pub Scans-on : (limit : ℕ) (s o t : Scanning) (before bytes : List ℕ) (lines : List Line)
     (count : ℕ) → NoFeed bytes → count ≤ length bytes → length o.part + count ≤ 514
-    → o.part ≡ s.part → o.lines ≡ s.lines → o.room ≡ s.room
-    → t.part ≡ o.part ++ take count bytes → t.lines ≡ o.lines → t.room + count ≡ o.room
+    → o.part ≡ s.part → o.lines ≡ s.lines → o.allowance ≡ s.allowance
+    → t.part ≡ o.part ++ take count bytes → t.lines ≡ o.lines → t.allowance + count ≡ o.allowance
     → Scans limit s before lines → Scans limit t (before ++ take count bytes) lines
-Scans-on limit s o t before bytes lines count none within fits part same room more same' room' h =
+Scans-on limit s o t before bytes lines count none within fits part same allowance more same' allowance' h =
     let taken = take count bytes in
     let whole : t.part ≡ s.part ++ taken = more ∙ ap (λ l. l ++ taken) part in
     record {
@@ -43,18 +43,18 @@ Scans-on limit s o t before bytes lines count none within fits part same room mo
         };
       };
       count = same' ∙ same ∙ h.count;
-      room = omega (
+      allowance = omega (
         arith,
-        room,
-        room',
-        h.room,
+        allowance,
+        allowance',
+        h.allowance,
         length-append before taken,
         length-take-le count
             bytes within,
       );
     }
 
--- what the next byte of the open line is a cause of, where there is no room for it
+-- what the next byte of the open line is a cause of, where it is refused
 cause-on : (limit : ℕ) (t : Scanning) (front : ℕ) (lines : List Line) (bytes more : List ℕ)
     (why : LineFault) → NoFeed bytes → 0 < length bytes
     → ((byte : ℕ) (rest : List ℕ) → byte ≢ 10 → IsCause limit front lines t.part (byte ∷ rest) why)
@@ -78,24 +78,24 @@ StopsIn-on limit t before bytes lines count why none within scans h = record {
       (omega (arith, length-drop count bytes, within)) h;
 }
 
--- it took as many as there is room for in the file
+-- it took as many as the file may still have
 pub StopsIn-file : (limit : ℕ) (t : Scanning) (before bytes : List ℕ) (lines : List Line)
-    (count : ℕ) → NoFeed bytes → count < length bytes → t.room ≡ 0
+    (count : ℕ) → NoFeed bytes → count < length bytes → t.allowance ≡ 0
     → Scans limit t (before ++ take count bytes) lines → StopsIn limit t before bytes lines TooLong
 StopsIn-file limit t before bytes lines count none within empty scans =
     StopsIn-on limit t before bytes lines count TooLong none within scans (λ byte rest other.
-    let front : length (before ++ take count bytes) ≡ limit = omega (arith, scans.room, empty) in
+    let front : length (before ++ take count bytes) ≡ limit = omega (arith, scans.allowance, empty) in
     front)
 
--- it took as many as there is room for in the line
+-- it took as many as the line may still have
 pub StopsIn-line : (limit : ℕ) (t : Scanning) (before bytes : List ℕ) (lines : List Line)
-    (count line : ℕ) → NoFeed bytes → count < length bytes → 0 < t.room → length t.part ≡ 514
+    (count line : ℕ) → NoFeed bytes → count < length bytes → 0 < t.allowance → length t.part ≡ 514
     → line ≡ t.lines + 1 → Scans limit t (before ++ take count bytes) lines
     → StopsIn limit t before bytes lines (LineLong line)
 StopsIn-line limit t before bytes lines count line none within some full next scans =
     StopsIn-on limit t before bytes lines count (LineLong line) none within scans
     (λ byte rest other.
-    (omega (arith, scans.room, some), other, full, next ∙ ap (λ n. n + 1) scans.count))
+    (omega (arith, scans.allowance, some), other, full, next ∙ ap (λ n. n + 1) scans.count))
 
 -- ---- a scanner over a piece
 
@@ -125,9 +125,9 @@ Scans-ended limit s bytes piece at lines within feed scans =
 -- the open line is one of an air file, and a line feed ends it
 pub Scans-line : (limit : ℕ) (s t : Scanning) (bytes : List ℕ) (lines : List Line) (line : Line)
     → Scans limit s bytes lines → IsLine line → s.part ≡ spelling line → t.part ≡ []
-    → t.lines ≡ s.lines + 1 → t.room + 1 ≡ s.room
+    → t.lines ≡ s.lines + 1 → t.allowance + 1 ≡ s.allowance
     → Scans limit t (bytes ++ 10 ∷ []) (lines ++ line ∷ [])
-Scans-line limit s t bytes lines line h good spelled none next room = record {
+Scans-line limit s t bytes lines line h good spelled none next allowance = record {
   splits = record {
     whole =
         ap (λ l. l ++ 10 ∷ []) (h.splits.whole ∙ ap (λ l. file_of lines ++ l) spelled)
@@ -139,7 +139,7 @@ Scans-line limit s t bytes lines line h good spelled none next room = record {
     part = subst IsBeginning (sym none) (record { none = tt; short = omega arith });
   };
   count = next ∙ ap (λ n. n + 1) h.count ∙ sym (length-append lines (line ∷ []));
-  room = omega (arith, h.room, room, length-append bytes (10 ∷ []));
+  allowance = omega (arith, h.allowance, allowance, length-append bytes (10 ∷ []));
 }
 
 -- a scanner that stops in the front of a piece stops in the piece

@@ -113,9 +113,9 @@ pub takes-digits : (old new : Scanning) (piece : List ℕ) (mark : Option Channe
     (digits : List ℕ) (start count : ℕ) (bits : List Bool)
     → Digits piece mark digits start count bits → old.part ≡ []
     → new.latest ≡ Some (elements mark bits) → new.part ≡ [] → new.lines ≡ old.lines + 1
-    → new.room + (start + count + 1) ≡ old.room
+    → new.allowance + (start + count + 1) ≡ old.allowance
     → TakesLine old new piece (Elements mark) (start + count + 1)
-takes-digits old new piece mark digits start count bits h empty latest part lines room = record {
+takes-digits old new piece mark digits start count bits h empty latest part lines left = record {
   line = elements mark bits;
   says = refl;
   good = (digits-spell piece mark digits start count bits h).good;
@@ -131,7 +131,7 @@ takes-digits old new piece mark digits start count bits h empty latest part line
   latest = latest;
   part = part;
   lines = lines;
-  room = room;
+  allowance = left;
 }
 
 -- ---- a moment
@@ -156,10 +156,10 @@ pub takes-moment : (old new : Scanning) (piece digits : List ℕ) (value count :
     → (value < 10 ^ 11) × (take count digits ≡ decimal value)
     → count < length digits → get_or digits count 0 ≡ 10 → old.part ≡ []
     → new.latest ≡ Some (moment value) → new.part ≡ [] → new.lines ≡ old.lines + 1
-    → new.room + (2 + count + 1) ≡ old.room
+    → new.allowance + (2 + count + 1) ≡ old.allowance
     → TakesLine old new piece (Moment value) (2 + count + 1)
 takes-moment old new piece digits value count whole found within feed empty latest part lines
-    room = record {
+    allowance = record {
       line = moment value;
       says = refl;
       good = found.0;
@@ -174,7 +174,7 @@ takes-moment old new piece digits value count whole found within feed empty late
       latest = latest;
       part = part;
       lines = lines;
-      room = room;
+      allowance = allowance;
     }
 
 -- and with them those of the front of a piece that were kept too

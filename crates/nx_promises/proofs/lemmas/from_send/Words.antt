@@ -21,7 +21,7 @@ use Rattle.nx_fec.proofs.lemmas.emissions.Emission.{AreWords-emission, IsEmissio
 use Rattle.nx_fec.proofs.lemmas.emissions.Emission.{length-emission}
 use Rattle.nx_fec.proofs.lemmas.emissions.RoundTrip.{counts_as-phasing_1, counts_as-phasing_2, length-bits_of}
 use Rattle.nx_station.specs.Broadcast.{AreSpelled, IsBroadcast, layout, printed_text}
-use Rattle.nx_station.specs.reception.Path.{PassesChannel, heard_in}
+use Rattle.nx_station.specs.reception.Path.{PassesPath, heard_in}
 use Rattle.nx_station.proofs.lemmas.reception.PathLaws.{inner-in_code, no-phasing_1, sent-weight, taken-as_sent}
 use Rattle.nx_station.proofs.lemmas.reception.PathPositions.{HasInner, layout-inner, position-end, position-inner}
 use Rattle.nx_station.proofs.lemmas.reception.PathUndamaged.{undamaged-received}
@@ -112,7 +112,7 @@ module _ (messages : List MessageView) (numbers : List ℕ) (spellings : List (L
   has_inner : HasInner sent
   has_inner = layout-inner messages (numbers ∷ spellings) (λ e. cc) spelled
 
-  pub passes : PassesChannel sent late
+  pub passes : PassesPath sent late
   passes =
       undamaged-received messages sent
       (λ e. subst (λ (m : List MessageView). AreSpelled m (numbers ∷ spellings)) e spelled)

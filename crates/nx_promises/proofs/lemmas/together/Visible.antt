@@ -217,7 +217,7 @@ pub seen-holds : (earlier : List Bool) (emission : ReceivedEmission) → IsSeen 
 seen-holds earlier emission seen =
     holds-through earlier emission.heard (seen-locked earlier emission seen)
 
--- what passes the channel is visible
+-- what passes the path is visible
 pub received-seen : (emission : ReceivedEmission) → IsReceived emission → IsSeen emission
 received-seen emission is =
     let has = told-inner emission.messages emission.spellings

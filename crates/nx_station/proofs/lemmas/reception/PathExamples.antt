@@ -17,7 +17,7 @@ use Rattle.nx_envelope.proofs.lemmas.messages.WordsInTexts.{holds_none}
 use Rattle.nx_fec.specs.emissions.Emission.{SentPosition, phasing_position, traffic_position, end_position}
 use Rattle.nx_fec.specs.emissions.Emission.{bits_of, position_at, slots_of, word_sent}
 use Rattle.nx_station.specs.Broadcast.{IsSpelled, ending, first_phasing, head, layout}
-use Rattle.nx_station.specs.reception.Path.{PassesChannel, IsAsSent, first_slot, heard_in, message_slot}
+use Rattle.nx_station.specs.reception.Path.{PassesPath, IsAsSent, first_slot, heard_in, message_slot}
 use Rattle.nx_station.specs.reception.Path.{phasing_received, phasing_words}
 use Rattle.nx_station.specs.reception.PathExample.{damaged_in, example_emission, example_parts}
 use Rattle.nx_station.specs.reception.PathExample.{example_sending, example_message, example_numbers}
@@ -84,7 +84,7 @@ one_or_other false true two h = inr (inl refl)
 one_or_other false false two h = inr (inr h)
 
 passes-computed : (positions : List SentPosition) (heard : List ℕ)
-    → first_phasing ≤ length positions → Computed positions heard → PassesChannel positions heard
+    → first_phasing ≤ length positions → Computed positions heard → PassesPath positions heard
 passes-computed positions heard long is = record {
   words = λ k h. ltb-true (get_or heard k 0) 128
       (below (λ k. ltb (get_or heard k 0) 128) (length heard) k is.words h);
@@ -252,7 +252,7 @@ unfolding layout example_numbers heard_without_75 damaged_in example_words phasi
     traffic_word row_of table
 lost-155 = refl
 
-pub not_received : PassesChannel (layout (example_numbers ∷ [])) heard_without_75 → ⊥
+pub not_received : PassesPath (layout (example_numbers ∷ [])) heard_without_75 → ⊥
 not_received h =
     elim (h.one_of_two 75 (lit≤ tt) (omega (arith, positions-example))
     (λ e. let clash : traffic_position 26 ≡ end_position = sym example-75 ∙ e in cc)) [

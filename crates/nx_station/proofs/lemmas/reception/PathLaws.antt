@@ -13,7 +13,7 @@ use Rattle.nx_fec.specs.emissions.Pairing.{Counted, traffic, idle_signal, nothin
 use Rattle.nx_fec.proofs.lemmas.emissions.Emission.{word_sent-dx, word_sent-rx}
 use Rattle.nx_fec.proofs.lemmas.emissions.Pairing.{counts_as-combination, counts_as-wrong}
 use Rattle.nx_fec.proofs.lemmas.emissions.RoundTrip.{counts_as-phasing_1, counts_as-phasing_2}
-use Rattle.nx_station.specs.reception.Path.{PassesChannel, IsAsSent, heard_in, first_slot, message_slot}
+use Rattle.nx_station.specs.reception.Path.{PassesPath, IsAsSent, heard_in, first_slot, message_slot}
 use Rattle.nx_station.specs.reception.Path.{word_span, most_wrong}
 use Rattle.nx_station.proofs.lemmas.reception.PathCounts.{one_if_wrong, right-counts_none, one_if_wrong-le}
 use Rattle.nx_station.proofs.lemmas.reception.PathCounts.{wrong_in-right, wrong_in-one}
@@ -88,7 +88,7 @@ taken-rx end_position = refl
 -- ---- the words that are heard
 
 module _ (positions : List SentPosition) (heard : List ℕ) (has : HasInner positions)
-    (passes : PassesChannel positions heard) where
+    (passes : PassesPath positions heard) where
   in_code : (i : ℕ) → IsInCode (position_at positions i)
   in_code i = elim (cases_lt (i + end_positions) (length positions)) [
     | inl inside ↦ inner-in_code (position_at positions i) (position-inner positions has i inside)

@@ -19,7 +19,7 @@ use Rattle.nx_code.specs.declared.shifts.Shift.{Shift}
 use Rattle.nx_code.specs.declared.shifts.Shift.TheVariants.{Letters, Figures}
 use Rattle.nx_station.proofs.lemmas.broadcasts.Broadcast.{length-head, length-layout}
 use Rattle.nx_station.proofs.lemmas.reception.PathWords.{not-empty}
-use Rattle.nx_station.specs.reception.Path.{PassesChannel, first_slot, phasing_words, phasing_received}
+use Rattle.nx_station.specs.reception.Path.{PassesPath, first_slot, phasing_words, phasing_received}
 
 get_or-phasing : (count i : ℕ) → i < count
     → get_or (replicate count phasing_position) i end_position ≡ phasing_position
@@ -88,7 +88,7 @@ length-phasing_words = refl
 abbrev first_position : ℕ
 first_position = first_phasing - phasing_received
 
-module _ (positions : List SentPosition) (heard : List ℕ) (passes : PassesChannel positions heard)
+module _ (positions : List SentPosition) (heard : List ℕ) (passes : PassesPath positions heard)
     (enough : fewest_positions ≤ length positions)
     (phased : (i : ℕ) → i < first_phasing → position_at positions i ≡ phasing_position) where
   sent : (j : ℕ) → j < 2 * phasing_received
@@ -124,12 +124,12 @@ module _ (positions : List SentPosition) (heard : List ℕ) (passes : PassesChan
 
 -- what is received is long enough, and begins with phasing
 pub heard-phasing : (messages : List MessageView) (positions : List SentPosition) (heard : List ℕ)
-    → IsBroadcast messages positions → PassesChannel positions heard
+    → IsBroadcast messages positions → PassesPath positions heard
     → take (2 * phasing_received) heard ≡ phasing_words phasing_received
 heard-phasing messages positions heard h passes =
     let long : fewest_positions ≤ length (layout h.spellings) =
     received-long messages h.spellings h.each
-    (not-empty h.spellings heard (subst (λ p. PassesChannel p heard) h.whole passes)) in
+    (not-empty h.spellings heard (subst (λ p. PassesPath p heard) h.whole passes)) in
     begins_with_phasing positions heard passes
     (subst (λ p. fewest_positions ≤ length p) (sym h.whole) long)
     (λ i lt. ap (λ p. position_at p i) h.whole ∙ layout-phasing h.spellings i long lt)

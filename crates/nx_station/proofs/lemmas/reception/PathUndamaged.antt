@@ -11,7 +11,7 @@ use Rattle.nx_fec.specs.emissions.Emission.{SentPosition, AreInCode, AreWords, I
 use Rattle.nx_fec.specs.emissions.Emission.{position_at}
 use Rattle.nx_fec.proofs.lemmas.emissions.Emission.{AreWords-emission, get_or-emission, length-emission}
 use Rattle.nx_station.specs.Broadcast.{IsBroadcast, layout}
-use Rattle.nx_station.specs.reception.Path.{PassesChannel, IsAsSent, first_slot}
+use Rattle.nx_station.specs.reception.Path.{PassesPath, IsAsSent, first_slot}
 use Rattle.nx_station.proofs.lemmas.broadcasts.Broadcast.{spelled-some}
 use Rattle.nx_station.proofs.lemmas.reception.PathLaws.{inner-in_code}
 use Rattle.nx_station.proofs.lemmas.reception.PathPhasing.{fewest_positions, received-long}
@@ -39,7 +39,7 @@ module _ (positions : List SentPosition) (has : HasInner positions)
       (AreWords-emission positions (inner-all_in_code positions has) (first_slot + k)
       (omega arith))
 
-  pub undamaged-passes : PassesChannel positions (drop first_slot (emission positions))
+  pub undamaged-passes : PassesPath positions (drop first_slot (emission positions))
   undamaged-passes = record {
     words = all_words;
     whole = let n = length-drop first_slot (emission positions) in let m =
@@ -51,10 +51,10 @@ module _ (positions : List SentPosition) (has : HasInner positions)
 
 pub undamaged-received : (messages : List MessageView) (positions : List SentPosition)
     → messages ≢ [] → IsBroadcast messages positions
-    → PassesChannel positions (drop first_slot (emission positions))
+    → PassesPath positions (drop first_slot (emission positions))
 undamaged-received messages positions some h =
     let spelled = spelled-some messages h.spellings some h.each in
-    subst (λ p. PassesChannel p (drop first_slot (emission p))) (sym h.whole)
+    subst (λ p. PassesPath p (drop first_slot (emission p))) (sym h.whole)
     (undamaged-passes (layout h.spellings) (layout-inner messages h.spellings spelled h.each)
     (received-long messages h.spellings h.each spelled))
 

@@ -13,7 +13,7 @@ use Rattle.nx_fec.proofs.lemmas.emissions.RoundTrip.{length-bits_of, words_of-bi
 use Rattle.nx_fec.proofs.lemmas.emissions.Aligned.{get_or-words_of}
 use Rattle.nx_station.specs.Broadcast.{IsBroadcast, layout}
 use Rattle.nx_envelope.specs.Message.{MessageView}
-use Rattle.nx_station.specs.reception.Path.{PassesChannel, heard_in, first_slot, message_slot}
+use Rattle.nx_station.specs.reception.Path.{PassesPath, heard_in, first_slot, message_slot}
 use Rattle.nx_station.specs.reception.Path.{phasing_received, word_span, most_wrong}
 use Rattle.nx_station.proofs.lemmas.reception.PathCounts.{wrong_in-count}
 use Rattle.nx_code.proofs.lemmas.WordCounts.{wrong_in-add, wrong_in-le}
@@ -24,21 +24,21 @@ use Rattle.nx_station.proofs.lemmas.reception.PathPositions.{HasInner, layout-in
 
 -- an emission that passes has positions
 pub not-empty : (spellings : List (List ℕ)) (heard : List ℕ)
-    → PassesChannel (layout spellings) heard → spellings ≢ []
+    → PassesPath (layout spellings) heard → spellings ≢ []
 unfolding layout
 not-empty spellings heard passes e =
     let n = ap (λ s. length (layout s)) e in
     absurd (omega (arith, passes.whole, n))
 
 pub received-inner : (messages : List MessageView) (positions : List SentPosition) (heard : List ℕ)
-    → IsBroadcast messages positions → PassesChannel positions heard → HasInner positions
+    → IsBroadcast messages positions → PassesPath positions heard → HasInner positions
 received-inner messages positions heard h passes =
     subst HasInner (sym h.whole)
     (layout-inner messages h.spellings
-    (not-empty h.spellings heard (subst (λ p. PassesChannel p heard) h.whole passes)) h.each)
+    (not-empty h.spellings heard (subst (λ p. PassesPath p heard) h.whole passes)) h.each)
 
 module _ (positions : List SentPosition) (heard : List ℕ) (has : HasInner positions)
-    (passes : PassesChannel positions heard) where
+    (passes : PassesPath positions heard) where
   -- the count of a part of what is heard
   pub few-listed : (first n : ℕ) → n ≤ word_span
       → count_by is_wrong (take n (drop first heard)) ≤ most_wrong

@@ -182,7 +182,7 @@ passed-cause limit front lines part piece rest count byte (BadLine line) within 
 
 pub passed-stop : (limit : ℕ) (s t : Scanning) (since piece : List ℕ) (lines : List Line)
     (why : LineFault)
-    → length piece ≤ s.room → Scans limit s since lines → StopsIn limit t since piece lines why
+    → length piece ≤ s.allowance → Scans limit s since lines → StopsIn limit t since piece lines why
     → IsPassedOver (reason_of_fault why) s.part piece
 passed-stop limit s t since piece lines why room h stop =
     let count = stop.count in
@@ -195,7 +195,7 @@ passed-stop limit s t since piece lines why room h stop =
     (omega (
       arith,
       room,
-      h.room,
+      h.allowance,
       stop.within,
       length-append since (take count piece),
       length-take-le count piece (omega (arith, stop.within)),

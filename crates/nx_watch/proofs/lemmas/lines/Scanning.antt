@@ -225,7 +225,7 @@ pub on-stopped : (old : AnyScanner) (t : Scanning) (bytes more piece : List ℕ)
     (lines : List (Option Line)) (fault : LineFault) (why : NoEffect)
     (Holds : List ℕ → List (Option Line) → Type 0)
     → why ≡ reason_of_fault fault
-    → old.is_passing ≡ false → length piece ≤ old.scanner.room → IsScanning old bytes lines
+    → old.is_passing ≡ false → length piece ≤ old.scanner.allowance → IsScanning old bytes lines
     → ((limit : ℕ) (since : List ℕ) (found : List Line) → Scans limit old.scanner since found
     → StopsIn limit t since piece found fault)
     → ((before : List ℕ) (lines : List (Option Line)) (part : List ℕ)

@@ -1,8 +1,8 @@
 -- An empty body. The borrow is opened and closed at another ghost value.
-use Rattle.std.proofs.Common.{ℕ, List, [], ◌∷◌, refl, MutBor}
+use Rattle.std.proofs.Common.{ℕ, Bool, List, [], ◌∷◌, refl, MutBor}
 use seplogic.Ra.Ura.{Ura}
 use mir.Syntax.{named}
-use mir.Val.{Val, vunit, vptr}
+use mir.Val.{Val, vunit, vptr, vbool}
 use base.Logic.{SProp, ent, sep, emp, via, fst∗, id⊢}
 use base.Fml.{GName, Lft, Share, ftrue, flft, fobs, fbor}
 use prog.Memory.{Memory}
@@ -18,7 +18,8 @@ use types.ByLocal.{alloc_all, pass_all, free_all, look_at, sets}
 use sound.WpLaws.{WpFn-mono}
 use denote.RattleType.{owns}
 use denote.Memory.{mem}
-use denote.Ref.{MutRef, mut_vals, mut_Tells}
+use denote.Ref.{MutRef, ShrRef, mut_vals, mut_Tells, shr_vals, shr_Tells}
+use denote.Plain.{bool_vals, bool_Tells}
 use denote.Signature.{plain}
 use denote.Steps.{opens, closes}
 use denote.Triple.Entry.{on_entry}
@@ -32,44 +33,53 @@ use Rattle.nx_disk.specs.contracts.history.History.note as it
 use Rattle.nx_disk.proofs.history.History.note.Statement as stated
 use Rattle.nx_disk.proofs.history.History.note.Code as code
 use denote.Ref.{Bor}
-use denote.Builtin.{u8, u64}
+use denote.Builtin.{bool, u8}
 use denote.Exit.{yes}
 use denote.Slice.{ShrSlice, slice_val, shr_slice_vals, shr_slice_Tells}
-use denote.Triple.Walked.{stay_none_slice, Goes-none_slice}
+use denote.Triple.Walked.{stay_none, stay_none_ref, stay_none_slice}
+use denote.Triple.Walked.{Goes-none, Goes-none_ref, Goes-none_slice}
 use Rattle.std.proofs.Common.{◌<◌, ◌^◌, length}
-use Rattle.nx_disk.specs.private.Noting.{event_of}
+use Rattle.nx_disk.specs.contracts.history.DiskCall as D
+use Rattle.nx_disk.specs.declared.history.DiskCall.{DiskCall}
 
 abbrev Arg : Type 0
-Arg = MutBor History × (Bor (List ℕ) × (Bor (List ℕ) × Unit {0}))
+Arg = MutBor History × (Bor DiskCall × (Bool × (Bor (List ℕ) × Unit {0})))
 
 abbrev stayed : Stays (it.ended).signature.params (it.ended).kept
 stayed = (
   stay_ref (0 ∷ []) tt (plain (λ _. T.the_row)),
   (
-    stay_none_slice (1 ∷ []) tt (plain (λ _. u64)) yes,
-    (stay_none_slice (2 ∷ []) tt (plain (λ _. u8)) yes, tt),
+    stay_none_ref (1 ∷ []) tt (plain (λ _. D.the_row)) yes,
+    (stay_none (λ _. bool) yes, (stay_none_slice (2 ∷ []) tt (plain (λ _. u8)) yes, tt)),
   ),
 )
 
 module _ {M : Type 1} {𝓤 : Ura M} (𝓛 : Logic 𝓤) (at_mem : Memory → SProp 𝓤) (run : Routine → Fun 𝓤)
-    (κ κ' κ'' : Lft) (q q' q'' : Share) (b o : ℕ) (γ : GName) (h : History) (k s : Bor (List ℕ))
+    (κ κ' κ'' : Lft) (q q' q'' : Share) (b o : ℕ) (γ : GName) (h : History) (k : Bor DiskCall) (d : Bool)
+    (s : Bor (List ℕ))
   where
     open 𝓛 use {H, A}
 
     abbrev x : Arg
-    x = (record { ref_ptr = (b, o); ghost_name = γ; now = h }, (k, (s, tt)))
+    x = (record { ref_ptr = (b, o); ghost_name = γ; now = h }, (k, (d, (s, tt))))
 
     abbrev h' : History
-    h' = record { marker = h.marker; events = event_of k.now s.now ∷ h.events }
+    h' = record {
+      marker = h.marker;
+      events = record { call = k.now; has_succeeded = d; bytes = s.now } ∷ h.events;
+    }
 
-    abbrev at : List Val × (List Val × (List Val × Unit {0}))
+    abbrev at : List Val × (List Val × (List Val × (List Val × Unit {0})))
     at = (
       vptr b o ∷ [],
-      (slice_val k.ref_ptr (length k.now) ∷ [], (slice_val s.ref_ptr (length s.now) ∷ [], tt)),
+      (
+        vptr k.ref_ptr.0 k.ref_ptr.1 ∷ [],
+        (vbool d ∷ [], (slice_val s.ref_ptr (length s.now) ∷ [], tt)),
+      ),
     )
 
     abbrev rest : base.Fml.Fml
-    rest = owns (ShrSlice (named 1) κ' u64 ∷ ShrSlice (named 2) κ'' u8 ∷ []) x.1 at.1
+    rest = owns (ShrRef (named 1) κ' D.the_row ∷ bool ∷ ShrSlice (named 2) κ'' u8 ∷ []) x.1 at.1
 
     abbrev Post : Val → SProp 𝓤
     Post = (walk_of 𝓛 it.ended stayed (it.clauses 𝓛 at_mem run)).post
@@ -86,30 +96,32 @@ module _ {M : Type 1} {𝓤 : Ura M} (𝓛 : Logic 𝓤) (at_mem : Memory → SP
         (flft κ q) ∷ ‵ rest ∷ (‵ (flft κ' q') ⊛ (‵ (flft κ'' q'') ⊛ ‵ ftrue)) ∷ []) ∵
         suffices ! _
         (ends_at 𝓛 it.ended stayed (it.clauses 𝓛 at_mem run)
-        (((κ, (κ', (κ'', tt))), (q, (q', (q'', tt))), tt, x, at), tt) vunit tt (h', (tt, (tt, tt)))
-        (tt, (tt, (tt, tt)))) $ says ! refl $ move ! (2 ∷ 4 ∷ []) $ join ! $
+        (((κ, (κ', (κ'', tt))), (q, (q', (q'', tt))), tt, x, at), tt) vunit tt
+        (h', (tt, (tt, (tt, tt)))) (tt, (tt, (tt, (tt, tt))))) $
+        says ! refl $ move ! (2 ∷ 4 ∷ []) $ join ! $
         frame ! $ feq_i ! (List Val) (vptr b o ∷ []) (vptr b o ∷ []) refl $ fjoin3 ! $ fjoin ! $
         feq_i ! (List Val) (vunit ∷ []) (vunit ∷ []) refl $ move ! (1 ∷ 0 ∷ []) $ done !
 
     module _ (C : Calls 𝓤 H) (Λ : Loops 𝓤 H) where
-      walk : length k.now < 2 ^ 64 → length s.now < 2 ^ 64
+      walk : length s.now < 2 ^ 64
           → ent 𝓤 (on_entry 𝓛 it.signature (κ, (κ', (κ'', tt))) (q, (q', (q'', tt))) x at)
           (WpFn 𝓤 H C Λ code.function
-          (vptr b o ∷ slice_val k.ref_ptr (length k.now) ∷ slice_val s.ref_ptr (length s.now) ∷ [])
-          Post)
-      walk fk fs =
+          (vptr b o ∷ vptr k.ref_ptr.0 k.ref_ptr.1 ∷ vbool d ∷
+          slice_val s.ref_ptr (length s.now) ∷ []) Post)
+      walk fs =
           qed 𝓛 ((‵ (flft κ q) ⊛ (‵ (flft κ' q') ⊛ (‵ (flft κ'' q'') ⊛ ‵ ftrue))) ∷ ‵
-          (owns (MutRef (named 0) κ T.the_row ∷ ShrSlice (named 1) κ' u64 ∷ ShrSlice (named 2) κ''
-          u8 ∷ []) x at) ∷ []) ∵ split ! $ move ! (2 ∷ []) $ fsplit ! $ fsplit3 ! $ drop ! $
+          (owns (MutRef (named 0) κ T.the_row ∷ ShrRef (named 1) κ' D.the_row ∷ bool ∷ ShrSlice
+          (named 2) κ'' u8 ∷ []) x at) ∷ []) ∵
+          split ! $ move ! (2 ∷ []) $ fsplit ! $ fsplit3 ! $ drop ! $
           move ! (0 ∷ 1 ∷ 3 ∷ []) $
           enter ! C Λ code.function
-          (vptr b o ∷ slice_val k.ref_ptr (length k.now) ∷ slice_val s.ref_ptr (length s.now) ∷ [])
-          _ $
+          (vptr b o ∷ vptr k.ref_ptr.0 k.ref_ptr.1 ∷ vbool d ∷
+          slice_val s.ref_ptr (length s.now) ∷ []) _ $
           alloc_all ! (λ l. pass_all ! refl (
             (tt, tt),
             (
-              (tt, (tt, (record { fits = fk }, tt))),
-              ((tt, (tt, (record { fits = fs }, tt))), tt),
+              (tt, tt),
+              ((tt, tt), ((tt, (tt, (record { fits = fs }, tt))), tt)),
             ),
           ) $
           move ! (0 ∷ 1 ∷ 2 ∷ []) $ opens ! tt T.the_row {h = h} b o (λ vs.
@@ -126,21 +138,27 @@ module _ {M : Type 1} {𝓤 : Ura M} (𝓛 : Logic 𝓤) (at_mem : Memory → SP
     walks : (C : Calls 𝓤 H) (Λ : Loops 𝓤 H) → Walks 𝓛 it.ended stayed (WpFn 𝓤 H C Λ code.function)
         (it.clauses 𝓛 at_mem run)
     walks C Λ = walked 𝓛 it.ended stayed (it.clauses 𝓛 at_mem run) (WpFn 𝓤 H C Λ code.function)
-        (λ κs. (mut_vals, (shr_slice_vals, (shr_slice_vals, tt))))
+        (λ κs. (mut_vals, (shr_vals, (bool_vals, (shr_slice_vals, tt)))))
         (λ κs. (
           mut_Tells (named 0) κs.0 T.the_row,
-          (shr_slice_Tells (named 1) κs.1.0 u64, (shr_slice_Tells (named 2) κs.1.1.0 u8, tt)),
+          (
+            shr_Tells (named 1) κs.1.0 D.the_row,
+            (bool_Tells, (shr_slice_Tells (named 2) κs.1.1.0 u8, tt)),
+          ),
         ))
         (λ κs qs bounds a _ are. via 𝓤 _ (fst∗ 𝓤 _ (emp 𝓤))
         (walk 𝓛 at_mem run κs.0 κs.1.0 κs.1.1.0 qs.0 qs.1.0 qs.1.1.0 a.0.ref_ptr.0 a.0.ref_ptr.1
-        a.0.ghost_name a.0.now a.1.0 a.1.1.0 C Λ are.1.0.0.1.0 are.1.1.0.0.1.0))
+        a.0.ghost_name a.0.now a.1.0 a.1.1.0 a.1.1.1.0 C Λ are.1.1.1.0.0.1.0))
 
     goes : AllGo 𝓛 3 (it.signature).params (it.ended).kept stayed
     goes = (
       Goes-ref 𝓛 3 0 tt (plain (λ _. T.the_row)),
       (
-        Goes-none_slice 𝓛 3 (1 ∷ []) tt (plain (λ _. u64)) yes,
-        (Goes-none_slice 𝓛 3 (2 ∷ []) tt (plain (λ _. u8)) yes, tt),
+        Goes-none_ref 𝓛 3 (1 ∷ []) tt (plain (λ _. D.the_row)) yes,
+        (
+          Goes-none 𝓛 3 (λ _. bool) yes (λ κs x f. refl),
+          (Goes-none_slice 𝓛 3 (2 ∷ []) tt (plain (λ _. u8)) yes, tt),
+        ),
       ),
     )
 

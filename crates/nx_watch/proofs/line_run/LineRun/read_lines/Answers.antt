@@ -219,7 +219,7 @@ loop-has_failed-preserved g c =
     let w = c.in-Bytes.ensures.read.1 in
     let same_room = c.take_next.ensures.unread in
     let same = c.read.ensures.scanner in
-    let scanner_room = ap (λ s. s.scanner.room) same in
+    let scanner_room = ap (λ s. s.scanner.allowance) same in
     let at = (goal.at.loop-has_failed-preserved g c).After-read in
     record {
       writer = c.in-Ok-false.ensures.open;

@@ -22,8 +22,8 @@ invariant-loop-has_failed g l = record {
       (g.R.Read.remaining (counted_of l.reader).inner) bytes
       × (length bytes ≡ bytes_given l.reader);
   given : bytes_given l.reader + l.self.lines.room ≡ l.fn.self.lines.room;
-  room : l.self.lines.room + length l.self.lines.piece ≤ l.self.lines.scanner.scanner.room;
-  within : l.self.lines.scanner.scanner.room ≤ most_bytes;
+  room : l.self.lines.room + length l.self.lines.piece ≤ l.self.lines.scanner.scanner.allowance;
+  within : l.self.lines.scanner.scanner.allowance ≤ most_bytes;
   few : l.self.effects.lines + (length l.self.lines.piece + l.self.lines.room)
       ≤ l.fn.self.lines.room;
   fewer : l.self.effects.without_effect ≤ l.self.effects.lines;

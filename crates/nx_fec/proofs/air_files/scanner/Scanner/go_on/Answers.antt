@@ -32,9 +32,9 @@ returns-then-self-eq0-clause-bytes c = λ limit before lines h.
     StopsIn-file limit _ before bytes lines fitting c.requires.none within c.if-self-eq0.true
     (Scans-on limit c.args.self.now c.open.new.self _ before bytes lines fitting
     c.requires.none (omega (arith, within)) fits
-    c.open.ensures.part c.open.ensures.lines c.open.ensures.room whole
+    c.open.ensures.part c.open.ensures.lines c.open.ensures.allowance whole
     (ap (λ s. s.lines) c.self.view_is)
-    (omega (arith, c.min-fitting.ensures, ap (λ s. s.room) c.self.view_is)) h)
+    (omega (arith, c.min-fitting.ensures, ap (λ s. s.allowance) c.self.view_is)) h)
 
 pub returns-clause-bytes : goal.returns-clause-bytes
 returns-clause-bytes c = λ limit before lines h.
@@ -77,6 +77,6 @@ returns-clause-bytes c = λ limit before lines h.
     )) refl
     (Scans-on limit c.args.self.now c.open.new.self _ before bytes lines fitting
     c.requires.none (omega (arith, within)) fits
-    c.open.ensures.part c.open.ensures.lines c.open.ensures.room whole
+    c.open.ensures.part c.open.ensures.lines c.open.ensures.allowance whole
     (ap (λ s. s.lines) c.self.view_is)
-    (omega (arith, c.min-fitting.ensures, ap (λ s. s.room) c.self.view_is)) h)
+    (omega (arith, c.min-fitting.ensures, ap (λ s. s.allowance) c.self.view_is)) h)

@@ -37,12 +37,12 @@ invariant_of-self c =
         arith,
         short,
         c.self.invariant.0,
-        c.requires.room,
-        ap (λ s. s.room) c.self.view_is,
+        c.requires.allowance,
+        ap (λ s. s.allowance) c.self.view_is,
         c.if-count-gt-NEAR_ELEMENTS.false,
         none,
         ended.lines,
-        ended.room,
+        ended.allowance,
         ended.count,
       ),
       subst (λ k. IsKept k c.put.new.self c.append_front.new.self) (sym c.end_line.ensures.ended)
@@ -75,4 +75,4 @@ returns-clause-taken c =
     c.requires.empty (ap (λ k. line_ended k c.put.new.self) ended.ended)
     (ap (λ k. part_of k c.append_front.new.self) ended.ended)
     (ended.lines ∙ ap (λ s. s.lines + 1) c.self.view_is)
-    (omega (arith, ended.room, ended.count, ap (λ s. s.room) c.self.view_is)))
+    (omega (arith, ended.allowance, ended.count, ap (λ s. s.allowance) c.self.view_is)))

@@ -35,13 +35,13 @@ invariant_of-self-2 c =
         arith,
         c.self-2.invariant.0,
         c.if-self.false,
-        c.open.ensures.room,
-        ap (λ s. s.room) c.self.view_is,
-        ap (λ s. s.room) c.self-2.view_is,
+        c.open.ensures.allowance,
+        ap (λ s. s.allowance) c.self.view_is,
+        ap (λ s. s.allowance) c.self-2.view_is,
         c.if-end-gt-MAX_LINE_BYTES.false,
         part,
         ended.lines,
-        ended.room,
+        ended.allowance,
         ended.count,
       ),
       subst (λ k. IsKept k bits c.append_front.new.self) (sym c.end_line.ensures.ended)
@@ -78,8 +78,8 @@ returns-clause-taken c = λ _.
     ∙ ap (λ n. n + 1) c.open.ensures.lines)
     (omega (
       arith,
-      ended.room,
+      ended.allowance,
       ended.count,
-      ap (λ s. s.room) c.self-2.view_is,
-      c.open.ensures.room,
+      ap (λ s. s.allowance) c.self-2.view_is,
+      c.open.ensures.allowance,
     )))

@@ -18,12 +18,12 @@ invariant_of-self c =
       omega (
         arith,
         c.self.invariant.0,
-        c.requires.room,
-        ap (λ s. s.room) c.self.view_is,
+        c.requires.allowance,
+        ap (λ s. s.allowance) c.self.view_is,
         c.moment_front-moment.ensures.count,
         none,
         ended.lines,
-        ended.room,
+        ended.allowance,
         ended.count,
       ),
       subst (λ k. IsKept k c.clear-2.new.self c.append_front.new.self)
@@ -53,4 +53,4 @@ returns-clause-taken c =
     c.requires.empty (ap (λ k. line_ended k c.clear-2.new.self) ended.ended)
     (ap (λ k. part_of k c.append_front.new.self) ended.ended)
     (ended.lines ∙ ap (λ s. s.lines + 1) c.self.view_is)
-    (omega (arith, ended.room, ended.count, ap (λ s. s.room) c.self.view_is)))
+    (omega (arith, ended.allowance, ended.count, ap (λ s. s.allowance) c.self.view_is)))

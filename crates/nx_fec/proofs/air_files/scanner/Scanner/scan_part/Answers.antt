@@ -31,7 +31,7 @@ returns-in_default c =
     (c.in_ok-go_on.ensures.bytes limit bytes lines h))
     c.requires (omega arith)
     (subst (λ o. IfSome o IsLine) (sym c.go_on.ensures.latest) tt) (λ _. refl)
-    c.in_ok-go_on.ensures.room
+    c.in_ok-go_on.ensures.allowance
 
 pub go_on-requires-2-clause-none : goal.go_on-requires-2-clause-none
 go_on-requires-2-clause-none c =
@@ -54,9 +54,9 @@ returns-then-self-eq0 c =
     c.in-Some.ensures.0.high (feed-found c.args.piece.now c.in-Some.at c.in-Some.ensures.1) refl
     before (λ more. omega (
       arith,
-      before.room,
+      before.allowance,
       c.if-self-eq0.true,
-      ap (λ (s : Scanning). s.room) c.self.view_is,
+      ap (λ (s : Scanning). s.allowance) c.self.view_is,
     ))) tt
 
 pub returns-in_default-read_line : goal.returns-in_default-read_line
@@ -72,15 +72,15 @@ returns-in_default-read_line c =
     (ap (λ l. record {
       part = part_of i.progress.ended i.kept;
       lines = i.progress.lines;
-      room = i.progress.room;
+      allowance = i.progress.allowance;
       latest = l;
     }) (stays ∙ sym none) ∙ c.self.view_is)
     before (λ more. (
       omega (
         arith,
-        before.room,
+        before.allowance,
         c.if-self-eq0.false,
-        ap (λ (s : Scanning). s.room) c.self.view_is,
+        ap (λ (s : Scanning). s.allowance) c.self.view_is,
       ),
       refl,
       subst IsNoLine (c.as_slice.ensures ∙ sym part
@@ -97,11 +97,11 @@ returns c =
     let found = c.in-Some-read_line.ensures.found in
     let ended = c.end_line.ensures in
     let latest = ap (λ k. line_ended k c.read_line.new.elements) ended.ended in
-    let room = ap (λ (s : Scanning). s.room) c.self.view_is in
+    let allowance = ap (λ (s : Scanning). s.allowance) c.self.view_is in
     let now : Scanning = record {
       part = part_of c.end_line.new.self.ended i.kept;
       lines = c.end_line.new.self.lines;
-      room = c.end_line.new.self.room;
+      allowance = c.end_line.new.self.allowance;
       latest = line_ended c.end_line.new.self.ended c.read_line.new.elements;
     } in
     subst (λ n. ScansPiece c.args.self.now now c.args.piece.now (Ok (c.in-Some.at + n)))
@@ -117,8 +117,8 @@ returns c =
     (sym (ap (λ (s : Scanning). s.part) c.self.view_is) ∙ part ∙ sym c.as_slice.ensures
     ∙ found.spelled) (ap (λ k. part_of k i.kept) ended.ended)
     (ended.lines ∙ ap (λ n. n + 1) (ap (λ (s : Scanning). s.lines) c.self.view_is))
-    (omega (arith, ended.room, ended.count, room)))))
+    (omega (arith, ended.allowance, ended.count, allowance)))))
     (omega arith) (omega (arith, c.in-Some.ensures.0.high))
     (subst (λ o. IfSome o IsLine) (sym latest) found.good)
     (λ e. let no : Some line ≡ None = sym latest ∙ e in absurd (cc))
-    (omega (arith, ended.room, ended.count, room, c.in_ok-go_on-2.ensures.room)))
+    (omega (arith, ended.allowance, ended.count, allowance, c.in_ok-go_on-2.ensures.allowance)))
