@@ -3,17 +3,20 @@
 
 ghost use Rattle.std.specs.Prelude.{◌≡◌, ◌⊎◌, ◌<◌, ℕ, false, List, [], ◌++◌, length, take, alloc_error, Err, Some};
 ghost use Rattle.std.specs.Io.KnownBytes.{Consumes};
-ghost use Rattle.nx_fec.specs.Transfers.{Devices, contents_of};
+ghost use Rattle.nx_fec.specs.Transfers.{CountedDevice, Devices, contents_of};
 ghost use Rattle.nx_copies.specs.copies.Shares.{MarkedCopy};
 ghost use Rattle.nx_log.specs.KeptLog.{HoldKept, StopKept};
 ghost use Rattle.nx_log.specs.KeptRun.{RunsOverKept};
 ghost use Rattle.nx_log.specs.LogRun.{RunsOverLog, WroteOutput, WrotePart, WrotePlaced, WrotePlacedPart, WrotePlacedToEnd, WroteToEnd, most_read};
-ghost use Rattle.nx_log.specs.Notices.{HaveToldAll, HaveToldTorn, Notice, Notices};
+ghost use Rattle.nx_log.specs.NotedReader.{HasToldBefore, as_asked, counted_of, told_as_asked};
+ghost use Rattle.nx_log.specs.Notices.{HaveToldAll, HaveToldTorn, Notice, Notices, notices_of};
 ghost use Rattle.nx_log.specs.Places.{PlacedCopy};
+ghost use Rattle.nx_log.specs.Reading.{HoldEntries};
 ghost use Rattle.nx_log.specs.Salvage.{Salvage, SalvageToEnd, Stretch, first_line};
 ghost use Rattle.nx_log.specs.declared.damage.Damaged.{Damaged};
-ghost use Rattle.nx_log.specs.declared.damage.Damaged.TheVariants.{PassedOver};
+ghost use Rattle.nx_log.specs.declared.damage.Damaged.TheVariants.{PassedOver, Refused};
 ghost use Rattle.nx_log.specs.declared.log_fault.LogFault.TheVariants.{BadLog, Memory, Read as ReadFailed, Write as WriteFailed};
+ghost use Rattle.nx_log.specs.declared.noted_reader.NotedReader.{NotedReader};
 ghost use Rattle.nx_log.specs.declared.queries.query.Query.{Query};
 ghost use Rattle.nx_log.specs.declared.writing.form.Form.{Form};
 
@@ -96,4 +99,31 @@ pub fn a_run_without_memory_does_nothing<R: Read, W: Write>()
         → (ran : RunsOverKept query form from d (Err (Memory alloc_error)))
         → query.last ≡ false
         → (ran.bytes ≡ []) × (d.reader_after ≡ d.reader) × (d.writer_after ≡ d.writer) }
+{}
+
+/// What there is to tell of what was read before a failed read was told when that read was asked
+/// for, and no read had failed then: each torn entry; and each stretch too, where what is not of a
+/// log is passed over.
+pub fn what_there_is_to_tell_is_told_before_a_failed_read<R: Read, W: Write, N: Write>()
+    ensures of_log { (query : Query) (form : Form) (d : Devices R W) (reader : NotedReader R N)
+        (old new : CountedDevice N)
+        → RunsOverLog query form Refused d
+        (notices_of (N.contents old.inner) (N.contents new.inner) new.failures) (Err ReadFailed)
+        → d.reader_after ≡ counted_of reader → HasToldBefore reader new
+        → (bytes : List ℕ) × (entries : List MarkedCopy) × (torn : List ℕ)
+        × Consumes (d.remaining d.reader.inner) (d.remaining d.reader_after.inner) bytes
+        × HoldEntries bytes entries torn × ((as_asked reader).failures ≡ 0)
+        × HaveToldTorn (notices_of (N.contents old.inner)
+        (N.contents (told_as_asked reader).inner) (told_as_asked reader).failures) torn }
+    ensures salvaged { (query : Query) (form : Form) (d : Devices R W)
+        (reader : NotedReader R N) (old new : CountedDevice N)
+        → RunsOverLog query form PassedOver d
+        (notices_of (N.contents old.inner) (N.contents new.inner) new.failures) (Err ReadFailed)
+        → d.reader_after ≡ counted_of reader → HasToldBefore reader new
+        → (bytes : List ℕ) × (stretches : List Stretch) × (entries : List MarkedCopy)
+        × (told : List Notice)
+        × Consumes (d.remaining d.reader.inner) (d.remaining d.reader_after.inner) bytes
+        × Salvage stretches bytes entries told × ((as_asked reader).failures ≡ 0)
+        × HaveToldAll (notices_of (N.contents old.inner)
+        (N.contents (told_as_asked reader).inner) (told_as_asked reader).failures) told }
 {}

@@ -1,4 +1,4 @@
-use Rattle.std.proofs.Common.{◌≡◌, Bool, List, [], ℕ, false, subst}
+use Rattle.std.proofs.Common.{◌≡◌, Bool, false, subst}
 use Rattle.std.specs.Prelude.{alloc_error, Err}
 use Rattle.nx_fec.specs.Transfers.{Devices}
 use Rattle.nx_log.specs.KeptRun.{KeptRanOut}
