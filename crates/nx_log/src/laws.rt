@@ -36,6 +36,7 @@ ghost use Rattle.nx_log.specs.View.{IsViewOf, copy_said};
 ghost use Rattle.nx_log.specs.declared.entries.entry.EntryView.{EntryView};
 ghost use Rattle.nx_log.specs.declared.writing.places.Places.{Places};
 
+pub mod faults;
 pub mod runs;
 
 /// A log is read in one way: its bytes are the log of one list of logged entries. No entry's bytes
