@@ -1,6 +1,7 @@
 -- Lemmas that several proofs cite.
 pub mod Character
 pub mod Class
+pub mod Each
 pub mod Examples
 pub mod OneSpelling
 pub mod Packed

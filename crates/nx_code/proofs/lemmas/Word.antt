@@ -79,7 +79,9 @@ value_of-rest : (bit : Bool) (rest : ℕ)
 value_of-rest true rest = (eq-eqb _ _ (omega arith), omega arith)
 value_of-rest false rest = (ne_eqb _ _ (λ e. omega arith), omega arith)
 
-elements_from-number_of : (bits : List Bool) → elements_from (length bits) (number_of bits) ≡ bits
+-- as many bits as these are those of their number
+pub elements_from-number_of : (bits : List Bool)
+    → elements_from (length bits) (number_of bits) ≡ bits
 unfolding number_of elements_from
 elements_from-number_of [] = refl
 elements_from-number_of (bit ∷ bits) =

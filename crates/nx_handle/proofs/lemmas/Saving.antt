@@ -20,7 +20,7 @@ use Rattle.std.specs.Str.{bytes_eq}
 use Rattle.std.proofs.lemmas.Bool.{cases_lt, true≢false}
 use Rattle.std.proofs.lemmas.Slice.Eq.{bytes_eq-Decides}
 use Rattle.std.proofs.lemmas.List.{drop-drop, drop_at, drop_more, length-append, length-drop, length-take, take_all, take-append-drop, take_more}
-use Rattle.nx_memory.proofs.lemmas.StateLines.{each_append}
+use Rattle.nx_code.proofs.lemmas.Each.{each_append}
 
 -- the same beginning, of which something else holds
 pub begins-as : (bytes : List ℕ) (P Q : SavedStates → List ℕ → Type 0)

@@ -9,7 +9,7 @@ use Rattle.nx_memory.specs.Saved.{SavedState, SavedStates, IsSavedState, AreSave
 use Rattle.nx_memory.specs.StateText.{IsShortLine, last_line, rising, section, text_2}
 use Rattle.nx_memory.specs.declared.memories.entry.MemoryEntry.{MemoryEntry}
 use Rattle.nx_memory.proofs.lemmas.StateLaws.{text_short}
-use Rattle.nx_memory.proofs.lemmas.StateLines.{each_left, each_right}
+use Rattle.nx_code.proofs.lemmas.Each.{each_left, each_right}
 use Rattle.nx_receiver.specs.air_file_runs.State.{ended_lines, state_bytes}
 use Rattle.nx_receiver.proofs.lemmas.state.Splits.{ended-append, ended-one}
 use Rattle.nx_receiver.proofs.lemmas.state.Writing.{state_bytes-is}

@@ -23,7 +23,8 @@ use Rattle.nx_memory.specs.StateText.{spelling, rising, said, section, last_line
 use Rattle.nx_memory.specs.StateText.{IsText1, IsText2, IsStateText, IsShortLine}
 use Rattle.nx_memory.specs.private.StateReading.{IsSpelled}
 use Rattle.nx_memory.proofs.lemmas.Rising.{rising-contains}
-use Rattle.nx_memory.proofs.lemmas.StateLines.{IsGood, same_line, said_good, said_spelled, each_append}
+use Rattle.nx_code.proofs.lemmas.Each.{each_append}
+use Rattle.nx_memory.proofs.lemmas.StateLines.{IsGood, same_line, said_good, said_spelled}
 use Rattle.nx_memory.proofs.lemmas.StateLines.{each_map, each_weaker}
 use Rattle.nx_memory.proofs.lemmas.StateTexts.{section_long, split, versions_differ}
 

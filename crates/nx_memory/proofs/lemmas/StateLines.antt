@@ -19,6 +19,7 @@ use Rattle.nx_memory.specs.declared.memories.entry.MemoryEntry.{MemoryEntry}
 use Rattle.nx_memory.specs.declared.state.saved_line.SavedLine.{SavedLine}
 use Rattle.nx_memory.specs.declared.state.saved_line.SavedLine.TheVariants.{Station, Subject, Entry}
 use Rattle.nx_code.specs.Reading.{IsCapital}
+use Rattle.nx_code.proofs.lemmas.Each.{each_append, each_left, each_right}
 use Rattle.nx_memory.specs.Content.{IsLater, AreInTurn, IsContent}
 use Rattle.nx_memory.specs.Memory.{most_entries, newest_moment, content_after, is_known}
 use Rattle.nx_memory.specs.Selection.{is_vital}
@@ -30,22 +31,6 @@ use Rattle.nx_memory.proofs.lemmas.Letters.{letters_only-insert, without_vital-i
 use Rattle.nx_memory.proofs.lemmas.Loading.{newest_within, unknown_within}
 use Rattle.nx_memory.proofs.lemmas.Rising.{IsRising, rising-rises, rising-from_a, rising-to_z}
 use Rattle.nx_memory.proofs.lemmas.Rising.{rising-contains, rising-push}
-
--- what holds of each of a list, by cases on it
-pub each_append : {X : Type 0} (P : X → Type 0) (xs ys : List X) → AllByRecursion P xs
-    → AllByRecursion P ys → AllByRecursion P (xs ++ ys)
-each_append P [] ys left right = right
-each_append P (x ∷ xs) ys left right = (left.0, each_append P xs ys left.1 right)
-
-pub each_left : {X : Type 0} (P : X → Type 0) (xs ys : List X) → AllByRecursion P (xs ++ ys)
-    → AllByRecursion P xs
-each_left P [] ys all = tt
-each_left P (x ∷ xs) ys all = (all.0, each_left P xs ys all.1)
-
-pub each_right : {X : Type 0} (P : X → Type 0) (xs ys : List X) → AllByRecursion P (xs ++ ys)
-    → AllByRecursion P ys
-each_right P [] ys all = all
-each_right P (x ∷ xs) ys all = each_right P xs ys all.1
 
 pub each_map : {X Y : Type 0} (P : Y → Type 0) (f : X → Y) (xs : List X)
     → AllByRecursion (λ x. P (f x)) xs → AllByRecursion P (map f xs)

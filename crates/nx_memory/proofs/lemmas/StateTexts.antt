@@ -22,7 +22,8 @@ use Rattle.nx_memory.specs.private.StateReading.{IsRefused, IsRefusedAt, IsReadi
 use Rattle.nx_memory.specs.private.StateReading.{opened, may_end}
 use Rattle.nx_memory.proofs.lemmas.Content.{content-nil}
 use Rattle.nx_memory.proofs.lemmas.Rising.{rising-empty}
-use Rattle.nx_memory.proofs.lemmas.StateLines.{each, each_map, each_right}
+use Rattle.nx_code.proofs.lemmas.Each.{each_right}
+use Rattle.nx_memory.proofs.lemmas.StateLines.{each, each_map}
 
 -- nothing has no lines, and can be saved
 pub section_nothing : section nothing_saved ≡ []

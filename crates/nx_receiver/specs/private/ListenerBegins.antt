@@ -17,7 +17,8 @@ use Rattle.nx_receiver.specs.private.Listener.{IsListeningBy}
 use Rattle.nx_receiver.specs.Listener.{ListeningOver}
 use Rattle.nx_copies.specs.hearing.CopyHearer.{copies_by}
 
-tagged-by : (first : Setting) (events : List Event) (copies : List FoundCopy)
+-- what is in force at each element is what is in force at the events that are elements
+pub tagged-by : (first : Setting) (events : List Event) (copies : List FoundCopy)
     → copies_by first (settings first events) copies ≡ tagged_copies first events copies
 unfolding copies_by tagged_copies
 tagged-by first events copies = refl

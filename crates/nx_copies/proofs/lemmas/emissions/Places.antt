@@ -19,7 +19,7 @@ use Rattle.nx_copies.specs.copies.FoundCopies.{past_copies, found_to_end}
 use Rattle.nx_copies.proofs.lemmas.locks.Found.{text_placed, place_in-get_or, all_in_placed}
 use Rattle.nx_copies.proofs.lemmas.locks.Found.{length-bytes_of}
 use Rattle.nx_copies.proofs.lemmas.locks.Texts.{one_taken}
-use Rattle.nx_copies.proofs.lemmas.once.Rising.{Above, Rises, rises_append, rises_map}
+use Rattle.nx_copies.proofs.lemmas.once.Rising.{Above, Rises, above_later, rises_append, rises_map}
 use Rattle.nx_copies.proofs.lemmas.emissions.Copies.{copies_rise, copies_within}
 
 -- what a word prints is one byte at most, at the end of the word
@@ -62,14 +62,6 @@ text_rises first f t (suc n) =
     (λ (b : PlacedByte). t + 7 * n ≤ b.place) (λ b h. omega arith) (printed_by first f t n)
     (placed_at (word_place t n)
     (text (taken_at first f n) (shift_after_all (positions first f n) Letters))))
-
--- in such a list a later item has a greater key
-pub above_later : {A : Type 0} (key : A → ℕ) (n : ℕ) (xs : List A) (j : ℕ) (d : A) → Above key n xs
-    → j < length xs
-    → n < key (get_or xs j d)
-above_later key n [] j d h lt = absurd (omega arith)
-above_later key n (x ∷ xs) zero d h lt = h.0
-above_later key n (x ∷ xs) (suc j) d h lt = above_later key n xs j d h.1 (omega arith)
 
 pub rises_at : {A : Type 0} (key : A → ℕ) (xs : List A) (i j : ℕ) (d : A) → Rises key xs → i < j
     → j < length xs

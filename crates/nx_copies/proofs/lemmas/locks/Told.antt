@@ -87,7 +87,7 @@ not_past_yet bits more locks p lock q now past =
       | inr within ↦ within
     ]
 
-past_of : (bits : List Bool) (ls ks : List Lock) (p : ℕ) → Extends ls ks → Past bits ls p
+pub past_of : (bits : List Bool) (ls ks : List Lock) (p : ℕ) → Extends ls ks → Past bits ls p
     → (q : ℕ) × Past bits ks q
 unfolding Past
 past_of bits ls ks p same past = (p, past)

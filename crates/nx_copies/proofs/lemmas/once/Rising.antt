@@ -49,12 +49,13 @@ none_above key n (x ∷ xs) h =
     (ne_eqb (key x) n (λ e. absurd (omega (arith, h.0, e))))
     ∙ none_above key n xs h.1
 
-above_at : {A : Type 0} (key : A → ℕ) (n : ℕ) (xs : List A) (k : ℕ) (d : A) → Above key n xs
+-- in such a list a later item has a greater key
+pub above_later : {A : Type 0} (key : A → ℕ) (n : ℕ) (xs : List A) (k : ℕ) (d : A) → Above key n xs
     → k < length xs
     → n < key (get_or xs k d)
-above_at key n [] k d h lt = absurd (omega arith)
-above_at key n (x ∷ xs) zero d h lt = h.0
-above_at key n (x ∷ xs) (suc k) d h lt = above_at key n xs k d h.1 (omega arith)
+above_later key n [] k d h lt = absurd (omega arith)
+above_later key n (x ∷ xs) zero d h lt = h.0
+above_later key n (x ∷ xs) (suc k) d h lt = above_later key n xs k d h.1 (omega arith)
 
 one_at : {A : Type 0} (key : A → ℕ) (xs : List A) (k : ℕ) (d : A) → Rises key xs → k < length xs
     → filter (λ y. eqb (key y) (key (get_or xs k d))) xs ≡ get_or xs k d ∷ []
@@ -64,7 +65,7 @@ one_at key (x ∷ xs) zero d h lt =
     (filter (λ y. eqb (key y) (key x)) xs)) (eq-eqb (key x) (key x) refl)
     ∙ ap (λ l. x ∷ l) (none_above key (key x) xs h.0)
 one_at key (x ∷ xs) (suc k) d h lt =
-    let apart = above_at key (key x) xs k d h.0 (omega arith) in
+    let apart = above_later key (key x) xs k d h.0 (omega arith) in
     ap (λ b. cond b (x ∷ filter (λ y. eqb (key y) (key (get_or xs k d))) xs)
     (filter (λ y. eqb (key y) (key (get_or xs k d))) xs))
     (ne_eqb (key x) (key (get_or xs k d)) (λ e. absurd (omega (arith, apart, e))))

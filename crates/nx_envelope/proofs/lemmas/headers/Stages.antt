@@ -2,6 +2,7 @@
 use Rattle.std.proofs.Common.{◌≡◌, ◌≢◌, ℕ, ◌==◌, ◌&&◌, ◌||◌, if◌then◌else◌, Bool, true, false}
 use Rattle.std.proofs.Common.{Option, Some, None, List, [], ◌∷◌, refl, sym, ◌∙◌, arith}
 use Rattle.std.proofs.lemmas.Bool.Decides.{nat_tests}
+use Rattle.std.proofs.Math.Bool.{and-false}
 use Rattle.nx_envelope.specs.Header.{start_marker}
 use Rattle.nx_envelope.specs.private.Letters.{letter_of, digit_of, both, identity_with}
 use Rattle.nx_envelope.specs.private.Backward.{ends_in, spaces_back, station_back, subject_back}
@@ -125,13 +126,9 @@ not_tens (Station l) apart = refl
 not_tens (Subject l m) apart = refl
 not_tens (Tens l m d) apart = absurd (apart l m d refl)
 
-and_false : (c : Bool) → (c && false) ≡ false
-and_false true = refl
-and_false false = refl
-
 -- where no header has begun, none goes on
 pub quiet_more : (b : ℕ) (back : List ℕ) → Stands Nowhere false back → IsStageOf Nowhere (b ∷ back)
-quiet_more b back h = stage_is Nowhere Nowhere false b back h (and_false (b == 32)) refl refl refl
+quiet_more b back h = stage_is Nowhere Nowhere false b back h (and-false (b == 32)) refl refl refl
 
 pub no_header : (b : ℕ) (back : List ℕ) → IsStageOf Nowhere back → header_back (b ∷ back) ≡ None
 no_header b back h = header_is Nowhere b back h

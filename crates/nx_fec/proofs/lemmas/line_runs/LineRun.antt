@@ -113,10 +113,6 @@ HasGiven-written old new batch given count empty is h =
     subst (λ l. HasWritten old new l count) (sym all)
     (record { counted = is ∙ h.written.counted; appended = h.written.appended })
 
-pub All-front : (xs ys : List Line) → AllByRecursion IsLine (xs ++ ys) → AllByRecursion IsLine xs
-All-front [] ys h = tt
-All-front (x ∷ xs) ys h = (h.0, All-front xs ys h.1)
-
 -- the length of the last line that a scanner has ended
 pub last-within : (limit : ℕ) (s : Scanning) (bytes : List ℕ) (lines : List Line) (line : Line)
     → Scans limit s bytes (lines ++ line ∷ []) → length (file_of lines ++ spelling line) < limit

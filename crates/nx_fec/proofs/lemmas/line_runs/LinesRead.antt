@@ -5,6 +5,7 @@ use Rattle.std.proofs.Common.{append_assoc, append-nil, arith}
 use Rattle.std.specs.Io.KnownBytes.{Consumes, IsAtEnd}
 use Rattle.std.proofs.lemmas.List.{length-append}
 use Rattle.std.proofs.lemmas.Option.{IfSome_then}
+use Rattle.nx_code.proofs.lemmas.Each.{each_left}
 use Rattle.nx_fec.specs.Transfers.{Extent, Input, Reads, read_from, read_to, whole_input}
 use Rattle.nx_fec.specs.air_files.AirFile.{IsLine, Line, spelling}
 use Rattle.nx_fec.specs.air_files.LineReading.{HasFirstFault, HasGivenAll, HasGivenLines}
@@ -14,7 +15,7 @@ use Rattle.nx_fec.specs.declared.air_files.line_reader.LineReader.{LineReader}
 use Rattle.nx_fec.specs.declared.fault.LineFault.{LineFault}
 use Rattle.nx_fec.proofs.lemmas.devices.TransferLaws.{IfSome-end, IfSome-front, read_failed-none}
 use Rattle.nx_fec.proofs.lemmas.line_runs.LineReading.{looked-all}
-use Rattle.nx_fec.proofs.lemmas.line_runs.LineRun.{All-front, IsCutOnlyAtEnd-any, IsCutOnlyAtEnd-left, StopsAt-end}
+use Rattle.nx_fec.proofs.lemmas.line_runs.LineRun.{IsCutOnlyAtEnd-any, IsCutOnlyAtEnd-left, StopsAt-end}
 use Rattle.nx_fec.proofs.lemmas.line_runs.LineRun.{StopsAt-more, StopsAt-scans}
 use Rattle.nx_fec.proofs.lemmas.line_runs.LineRun.{cause-longer, file_of-one, last-within}
 use Rattle.nx_fec.proofs.lemmas.line_runs.LineRun.{scanned-within}
@@ -84,7 +85,7 @@ line-before remaining limit first reader lines line more good h =
           ∙ ap (λ l. l ++ after) (file_of-one lines line
           ∙ sym (append_assoc (file_of lines) (spelling line) (10 ∷ [])))
           ∙ append_assoc (file_of lines ++ spelling line) (10 ∷ []) after;
-      each = All-front lines (line ∷ []) h.scans.splits.each;
+      each = each_left IsLine lines (line ∷ []) h.scans.splits.each;
       part = spelling-IsBeginning line good;
       here = (
         record {

@@ -17,6 +17,7 @@ use Rattle.nx_fec.specs.air_files.AirFile.{with_mark, spelling, IsLine}
 use Rattle.nx_fec.specs.air_files.Lines.{IsAtByte, line_bytes, file_of, IsBeginning, Splits, IsCause}
 use Rattle.nx_fec.specs.air_files.Lines.{HasFault, IsAirFile, IsBitFile, elements_on}
 use Rattle.nx_code.specs.Reading.{IsCapital, newline}
+use Rattle.nx_code.proofs.lemmas.Each.{each_left}
 use Rattle.nx_fec.specs.declared.air_files.channel.Channel.{Channel}
 use Rattle.nx_fec.specs.declared.air_files.channel.Channel.TheVariants.{Zero, One, Two}
 use Rattle.nx_fec.specs.declared.fault.LineFault.{LineFault}
@@ -154,11 +155,6 @@ spelling-IsBeginning (accept_subject mark letter) h =
 
 -- ---- one reading of each file
 
-pub All-front : {X : Type 0} (P : X → Type 0) (xs ys : List X) → AllByRecursion P (xs ++ ys)
-    → AllByRecursion P xs
-All-front P [] ys h = tt
-All-front P (x ∷ xs) ys h = (h.0, All-front P xs ys h.1)
-
 pub no_feed-not : (p q : List ℕ) → NoFeed (p ++ (10 ∷ q)) → ⊥
 no_feed-not [] q h = h.0 refl
 no_feed-not (x ∷ p) q h = no_feed-not p q h.1
@@ -224,7 +220,7 @@ split (a ∷ p) x (b ∷ q) y e =
 IsBeginning-front : (p q : List ℕ) → IsBeginning (p ++ q) → IsBeginning p
 IsBeginning-front p q h =
     record {
-      none = All-front (λ byte. byte ≢ 10) p q h.none;
+      none = each_left (λ byte. byte ≢ 10) p q h.none;
       short = omega (arith, h.short, length-append p q);
     }
 

@@ -4,6 +4,7 @@ use Rattle.std.proofs.Common.{◌∷◌, ◌++◌, map, length, refl, ap, ◌∙
 use Rattle.std.specs.List.{AllByRecursion}
 use Rattle.std.proofs.lemmas.List.Elements.{All-append, All-drop, All-nil, All-weaker}
 use Rattle.std.proofs.lemmas.List.Folds.{list_any_none}
+use Rattle.std.proofs.Math.Bool.{or-true}
 use Rattle.nx_envelope.specs.Identity.{same_identity}
 use Rattle.nx_envelope.specs.Message.{MessageView}
 use Rattle.nx_envelope.specs.declared.identity.Identity.{Identity}
@@ -31,10 +32,6 @@ not_remembered entries copy h =
     (λ (entry : MemoryEntry). is_recent copy.identity copy.moment entry ≡ false)
     (λ entry e. lacks_recent copy.identity copy.moment entry e) entries h))
 
-or_true : (b : Bool) → (b || true) ≡ true
-or_true true = refl
-or_true false = refl
-
 -- so it is printed
 printed_is : (entries : List MemoryEntry) (slot : ℕ) (m : MessageView) → Lacks m.identity entries
     → if_printed entries (copy_as_sent slot m) ≡ copy_as_sent slot m ∷ []
@@ -43,7 +40,7 @@ printed_is entries slot m h =
     let copy = copy_as_sent slot m in
     ap (λ b. cond (true && (is_number_00 copy || not b)) (copy ∷ []) [])
     (not_remembered entries copy h)
-    ∙ ap (λ b. cond (true && b) (copy ∷ []) []) (or_true (is_number_00 copy))
+    ∙ ap (λ b. cond (true && b) (copy ∷ []) []) (or-true (is_number_00 copy))
 
 -- no entry of these bears the identity of one of the messages
 abbrev AreLacked : List MemoryEntry → List MessageView → Type 0

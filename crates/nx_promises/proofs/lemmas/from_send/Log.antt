@@ -31,7 +31,7 @@ use Rattle.nx_copies.proofs.lemmas.once.Rising.{Above, Rises}
 use Rattle.nx_copies.proofs.lemmas.emissions.Copies.{copy_at, ended_here, headers_rise, sent_copy}
 use Rattle.nx_copies.proofs.lemmas.emissions.Copies.{sent_header}
 use Rattle.nx_promises.proofs.lemmas.emissions.Headers.{headers_of_messages, messages_have_headers}
-use Rattle.nx_copies.proofs.lemmas.emissions.Places.{above_later}
+use Rattle.nx_copies.proofs.lemmas.once.Rising.{above_later}
 use Rattle.nx_promises.proofs.lemmas.from_send.Heard.{all_selected, bits_are, events, found, none_spelled}
 use Rattle.nx_promises.proofs.lemmas.from_send.Heard.{reads, stands, text}
 

@@ -27,6 +27,7 @@ use Rattle.nx_combine.specs.private.laws.BehindHeader.{raw-behind_header}
 use Rattle.nx_combine.specs.private.laws.EndedPositions.{EndedIn, past-ended}
 use Rattle.nx_combine.specs.private.laws.PositionsFor.{first, is-first}
 use Rattle.nx_combine.specs.private.laws.ReadOn.{ending-more}
+use Rattle.nx_combine.proofs.lemmas.Whole.{yes_some}
 
 -- The copy has the ending that the positions give.
 pub record HasEnding (how : How) (found : List ℕ) (positions : List Reception) : Type 0 where
@@ -50,10 +51,6 @@ given : (positions : List Reception) (ending : Ending)
     → ending_of (raw_text_of positions) ≡ Some ending → ending_by positions ≡ ending
 unfolding ending_by
 given positions ending is = ap (λ o. unwrap_or o (closed (raw_text_of positions))) is
-
-some_ending : (o : Option Ending) → is_some o ≡ true → (ending : Ending) × (o ≡ Some ending)
-some_ending None is = cc
-some_ending (Some ending) is = (ending, refl)
 
 -- positions that give a full text have ended
 full_ended : (positions : List Reception) (o : Option Ending)
@@ -80,7 +77,7 @@ up_to_gives : (header : Header) (positions : List Reception) (ending : Ending)
     → ending_of (raw_text_of positions) ≡ Some ending → ending_by (up_to_end positions) ≡ ending
 up_to_gives header positions ending is =
     let ended = ended_up_to positions (ap is_some is) in
-    let some = some_ending (ending_of (raw_text_of (up_to_end positions))) ended in
+    let some = yes_some (ending_of (raw_text_of (up_to_end positions))) ended in
     let whole = ends_on header (up_to_end positions) (drop (end_of positions) positions) some.0
     some.1 in
     let same : Some some.0 ≡ Some ending =

@@ -20,7 +20,7 @@ use Rattle.nx_sync.proofs.lemmas.states.StateChanges.{goes-on}
 use Rattle.nx_copies.specs.copies.FoundCopies.{all_in, found_copy}
 use Rattle.nx_copies.specs.copies.LockText.{lock_text}
 use Rattle.nx_copies.proofs.lemmas.locks.Found.{IsCopyIn, all_in_placed, text_placed}
-use Rattle.nx_copies.proofs.lemmas.locks.Told.{whole_heard}
+use Rattle.nx_copies.proofs.lemmas.locks.Told.{past_of, whole_heard}
 use Rattle.nx_copies.proofs.lemmas.emissions.Copies.{copy_at}
 use Rattle.nx_copies.proofs.lemmas.locks.Found.{filter_map-all}
 use Rattle.nx_copies.proofs.lemmas.once.Rising.{contains_map}
@@ -160,12 +160,6 @@ not_over_yet bits more ls p lock q is past =
           (IsReleased-less bits more lock.at lock.last is.found.here.enough heard past.released))
       | inr within ↦ within
     ]
-
-past_of : (bits : List Bool) (locks ks : List Lock) (p : ℕ) → Extends locks ks → Past bits locks p
-    → (q : ℕ) × Past bits ks q
-unfolding Past
-past_of bits locks ks p same past = (p, past)
-past_of bits (lock ∷ locks) ks p (newer e) past = past_of bits locks ks lock.from e past.1
 
 Ended≢LostLock : Ended ≡ LostLock → ⊥
 Ended≢LostLock e = cc

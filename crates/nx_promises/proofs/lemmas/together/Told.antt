@@ -15,6 +15,8 @@ use Rattle.nx_station.specs.Broadcast.{ending, head}
 use Rattle.nx_station.specs.reception.Sendings.{TellsMessage}
 use Rattle.nx_station.proofs.lemmas.strict_reading.ReadingBack.{Prints, Prints-append, Prints-character}
 use Rattle.nx_station.proofs.lemmas.strict_reading.ReadingBack.{Prints-nil, Prints-return, Prints-shift}
+use Rattle.nx_code.proofs.lemmas.Examples.{newline_in_figures}
+use Rattle.nx_station.proofs.lemmas.strict_reading.ReadingBack.{n-prints}
 use Rattle.nx_copies.proofs.lemmas.emissions.Markers.{full_ending, full_text}
 use Rattle.nx_combine.specs.Laws.{IsWhole, text_sent}
 use Rattle.nx_combine.specs.PositionEnds.{closed, ending_by, has_ended, raw_text_of}
@@ -66,14 +68,6 @@ module _ (message : MessageView) (numbers : List ℕ) (told : TellsMessage messa
       ap (take (length numbers - 14)) behind_head
       ∙ take_at sent (27 ∷ 28 ∷ 28 ∷ []) (length numbers - 14) (omega (arith, long))
 
-  feed-prints : character_of 28 Figures ≡ Some 10
-  unfolding character_of
-  feed-prints = refl
-
-  n-prints : character_of 14 Letters ≡ Some 78
-  unfolding character_of row_of table
-  n-prints = refl
-
   marker-prints : Prints Letters (map combination (14 ∷ 14 ∷ 14 ∷ 14 ∷ [])) end_marker Letters
   marker-prints =
       Prints-character 14 78 Letters _ _ Letters (omega arith) n-prints
@@ -98,7 +92,7 @@ module _ (message : MessageView) (numbers : List ℕ) (told : TellsMessage messa
       ap (λ l. text (combination 27 ∷ combination 28 ∷ l) Figures)
       (map-append combination told.body (closing last_shift))
       ∙ (Prints-return Figures _ _ Letters
-      (Prints-character 28 10 Figures _ _ Letters (omega arith) feed-prints rest)).reads
+      (Prints-character 28 10 Figures _ _ Letters (omega arith) newline_in_figures rest)).reads
 
   sent-ends : AreLines message.lines → ending_of (raw_text_of (map combination sent))
       ≡ Some (full_text message.lines)

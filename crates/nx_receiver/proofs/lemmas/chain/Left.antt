@@ -25,7 +25,7 @@ use Rattle.nx_copies.specs.hearing.CopyHearing.{in_force}
 use Rattle.nx_receiver.proofs.lemmas.chain.Runs.{found_same}
 use Rattle.nx_copies.proofs.lemmas.printing.Logged.{end_adds, entries_after-append}
 use Rattle.nx_copies.proofs.lemmas.printing.Logged.{tagged_copies-append}
-use Rattle.nx_receiver.proofs.lemmas.receiver.Printing.{tagged-by}
+use Rattle.nx_receiver.specs.private.ListenerBegins.{tagged-by}
 
 -- a copy that is cut makes no entry
 cut-made : (entries : List MemoryEntry) (copy : TaggedCopy) → copy.how ≡ Cut

@@ -5,6 +5,7 @@ use Rattle.std.proofs.Common.{[], ◌∷◌, ◌++◌, map, Option, Some, None, 
 use Rattle.std.proofs.Common.{take-append-drop, drop, refl, sym, ap, ap₂, ◌∙◌, subst, append-nil}
 use Rattle.std.proofs.Common.{append_assoc, arith, length-append}
 use lib.Seq.{take-add}
+use Rattle.std.proofs.Math.Bool.{or-true}
 use Rattle.std.proofs.Math.Path.{fun_ext}
 use Rattle.std.proofs.lemmas.List.{length-map, length-take-le, map-append}
 use Rattle.std.proofs.lemmas.List.Concat.{flat_map-append}
@@ -167,10 +168,6 @@ taken-one starts lines line h k =
 or-none : (c d : Bool) → d ≡ false → (c || (d || false)) ≡ c
 or-none true d e = refl
 or-none false d e = ap (λ x. x || false) e
-
-or-true : (c : Bool) → (c || true) ≡ true
-or-true true = refl
-or-true false = refl
 
 -- one more line is no moment, or is one
 pub moment-other : (lines : List Line) (line : Line) (b : Bool) → b ≡ has_moment lines

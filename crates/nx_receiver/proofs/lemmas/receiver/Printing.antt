@@ -17,6 +17,7 @@ use Rattle.nx_receiver.specs.Receiver.{Receiving, Stands}
 use Rattle.nx_copies.specs.declared.entry.EntryHead.{EntryHead}
 use Rattle.nx_copies.specs.declared.copy_taker.Over.{Over}
 use Rattle.nx_receiver.specs.private.Awaiting.{AwaitsOver}
+use Rattle.nx_receiver.specs.private.ListenerBegins.{tagged-by}
 use Rattle.nx_copies.specs.hearing.CopyHearer.{HasEnded, HasEndedAll, HearerStands, copies_by}
 use Rattle.nx_copies.specs.hearing.CopyHearer.{IsOver}
 use Rattle.nx_copies.specs.hearing.CopyHearing.{CopyHearing, in_force}
@@ -83,12 +84,6 @@ awaits_with content start old new h s now copies log last more left stands force
       memory = enters before memory
           ∙ ap (last_of most_entries) (sym (entries_after-append start.entries copies last));
     }
-
--- what is in force at each element is what is in force at the events that are elements
-pub tagged-by : (first : Setting) (events : List Event) (copies : List FoundCopy)
-    → copies_by first (settings first events) copies ≡ tagged_copies first events copies
-unfolding copies_by tagged_copies
-tagged-by first events copies = refl
 
 -- A hearer stands after the elements of these events: what is printed of its copies is the log.
 pub has_printed : (start : Start) (events : List Event) (copies log : List TaggedCopy)

@@ -8,7 +8,7 @@ use Rattle.nx_fec.specs.Transfers.{whole_input}
 use Rattle.nx_memory.specs.Saved.{SavedStates, AreSavedStates}
 use Rattle.nx_memory.specs.StateText.{BeginsNoText, BeginsText, IsShortLine, IsStateText, text_2}
 use Rattle.nx_memory.proofs.lemmas.StateLaws.{none_begins, one_state, text_short}
-use Rattle.nx_memory.proofs.lemmas.StateLines.{each_left, each_right}
+use Rattle.nx_code.proofs.lemmas.Each.{each_left, each_right}
 use Rattle.nx_receiver.specs.air_file_runs.State.{AnswersState, BeginsWithState, IsNotUnderstood, IsStateBytes}
 use Rattle.nx_receiver.specs.air_file_runs.State.{ended_lines, state_bytes}
 use Rattle.nx_receiver.specs.declared.air_file_runs.state_fault.StateFault.{StateFault}

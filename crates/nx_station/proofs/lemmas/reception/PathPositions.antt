@@ -9,6 +9,7 @@ use Rattle.nx_code.specs.Reading.{combination, shift_after, shift_after_all}
 use Rattle.nx_code.specs.Spelling.{EachFits}
 use Rattle.nx_code.specs.declared.shifts.Shift.{Shift}
 use Rattle.nx_code.specs.declared.shifts.Shift.TheVariants.{Letters, Figures}
+use Rattle.nx_code.proofs.lemmas.Each.{each_append}
 use Rattle.nx_envelope.specs.Message.{MessageView}
 use Rattle.nx_envelope.specs.declared.identity.Identity.{Identity}
 use Rattle.nx_fec.specs.emissions.Emission.{SentPosition, phasing_position, traffic_position, end_position, end_positions}
@@ -28,12 +29,6 @@ abbrev pub IsInner : SentPosition → Type 0
 IsInner phasing_position = Unit {0}
 IsInner (traffic_position number) = IsCombination number
 IsInner end_position = ⊥
-
--- what holds of each of two lists holds of each of both
-pub each-append : {A : Type 0} (P : A → Type 0) (xs ys : List A) → AllByRecursion P xs
-    → AllByRecursion P ys → AllByRecursion P (xs ++ ys)
-each-append P [] ys h k = k
-each-append P (x ∷ xs) ys h k = (h.0, each-append P xs ys h.1 k)
 
 -- ---- the combinations of a message
 
@@ -64,7 +59,7 @@ head-combinations identity =
     (digit_combination (identity.number / 10) ∷ digit_combination (identity.number % 10) ∷ 27
     ∷ 28 ∷ []) =
     (tens, (ones, ((lit≤ tt, lit≤ tt), ((lit≤ tt, lit≤ tt), tt)))) in
-    each-append IsCombination (29 ∷ 26 ∷ 3 ∷ 26 ∷ 3 ∷ 31 ∷ [])
+    each_append IsCombination (29 ∷ 26 ∷ 3 ∷ 26 ∷ 3 ∷ 31 ∷ [])
     (letter_combination identity.b1.byte ∷ letter_combination identity.b2.byte ∷ 30
     ∷ digit_combination (identity.number / 10) ∷ digit_combination (identity.number % 10) ∷ 27
     ∷ 28 ∷ []) (
@@ -133,9 +128,9 @@ told-combinations : (message : MessageView) (numbers : List ℕ) → TellsMessag
 told-combinations message numbers h =
     let last = ending (shift_after_all (map combination h.body) Figures) in
     subst (AllByRecursion IsCombination) (sym h.whole)
-    (each-append IsCombination (head message.identity) (h.body ++ last)
+    (each_append IsCombination (head message.identity) (h.body ++ last)
     (head-combinations message.identity)
-    (each-append IsCombination h.body last h.each
+    (each_append IsCombination h.body last h.each
     (ending-combinations (shift_after_all (map combination h.body) Figures))))
 
 pub spelled-combinations : (message : MessageView) (numbers : List ℕ) → IsSpelled message numbers
@@ -158,7 +153,7 @@ message-inner : (count : ℕ) (message : MessageView) (numbers : List ℕ)
     → TellsMessage message numbers
     → AllByRecursion IsInner (phasing_and_message count numbers)
 message-inner count message numbers h =
-    each-append IsInner (replicate count phasing_position) (map traffic_position numbers)
+    each_append IsInner (replicate count phasing_position) (map traffic_position numbers)
     (phasing-inner count) (traffic-inner numbers (told-combinations message numbers h))
 
 others-inner : (messages : List MessageView) (spellings : List (List ℕ))
@@ -168,7 +163,7 @@ others-inner [] [] h = tt
 others-inner [] (s ∷ ss) h = absurd h
 others-inner (m ∷ ms) [] h = absurd h
 others-inner (m ∷ ms) (s ∷ ss) h =
-    each-append IsInner (phasing_and_message further_phasing s)
+    each_append IsInner (phasing_and_message further_phasing s)
     (flat_map (phasing_and_message further_phasing) ss) (message-inner further_phasing m s h.0)
     (others-inner ms ss h.1)
 
@@ -185,7 +180,7 @@ told-inner messages [] some h = absurd (some refl)
 told-inner [] (s ∷ ss) some h = absurd h
 told-inner (m ∷ ms) (s ∷ ss) some h = record {
   inner = phasing_and_message first_phasing s ++ flat_map (phasing_and_message further_phasing) ss;
-  each = each-append IsInner (phasing_and_message first_phasing s)
+  each = each_append IsInner (phasing_and_message first_phasing s)
       (flat_map (phasing_and_message further_phasing) ss) (message-inner first_phasing m s h.0)
       (others-inner ms ss h.1);
   whole = sym (append_assoc (phasing_and_message first_phasing s)

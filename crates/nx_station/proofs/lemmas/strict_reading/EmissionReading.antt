@@ -11,6 +11,7 @@ use Rattle.nx_code.specs.Reading.{idle, text}
 use Rattle.nx_code.specs.Word.{weight}
 use Rattle.nx_code.specs.declared.shifts.Shift.TheVariants.{Letters}
 use Rattle.nx_code.proofs.lemmas.Reading.{text-append}
+use Rattle.nx_code.proofs.lemmas.Each.{each_append}
 use Rattle.nx_envelope.specs.Message.{MessageView}
 use Rattle.nx_fec.specs.emissions.Aligned.{AreWhole, aligned_text, words_of}
 use Rattle.nx_fec.specs.emissions.Emission.{SentPosition, AreInCode, IsInCode, bits_of, emission, end_positions}
@@ -23,7 +24,7 @@ use Rattle.nx_station.specs.Broadcast.{AreSpelled, IsBroadcast, IsSpelled, layou
 use Rattle.nx_station.specs.Broadcast.{phasing_and_message, printed_text, first_phasing}
 use Rattle.nx_station.specs.Broadcast.{further_phasing}
 use Rattle.nx_station.specs.StrictReading.{IsEmissionOf, AreRight, ArePaired, IsPair}
-use Rattle.nx_station.proofs.lemmas.reception.PathPositions.{IsCombination, each-append, spelled-combinations}
+use Rattle.nx_station.proofs.lemmas.reception.PathPositions.{IsCombination, spelled-combinations}
 use Rattle.nx_station.proofs.lemmas.strict_reading.PrintedText.{printed-one}
 use Rattle.nx_station.proofs.lemmas.strict_reading.ReadingBack.{broadcast-prints}
 use Rattle.nx_station.proofs.lemmas.reception.WordWeights.{phasing_1-weight, dx-weight, rx-weight}
@@ -42,7 +43,7 @@ phasing-code (suc count) = (tt, phasing-code count)
 one-code : (count : ℕ) (message : MessageView) (numbers : List ℕ) → IsSpelled message numbers
     → AllByRecursion IsInCode (phasing_and_message count numbers)
 one-code count message numbers h =
-    each-append IsInCode (replicate count phasing_position) (map traffic_position numbers)
+    each_append IsInCode (replicate count phasing_position) (map traffic_position numbers)
     (phasing-code count) (traffic-code numbers (spelled-combinations message numbers h))
 
 others-code : (messages : List MessageView) (spellings : List (List ℕ))
@@ -52,7 +53,7 @@ others-code [] [] h = tt
 others-code [] (s ∷ ss) h = absurd h
 others-code (m ∷ ms) [] h = absurd h
 others-code (m ∷ ms) (s ∷ ss) h =
-    each-append IsInCode (phasing_and_message further_phasing s)
+    each_append IsInCode (phasing_and_message further_phasing s)
     (flat_map (phasing_and_message further_phasing) ss) (one-code further_phasing m s h.0)
     (others-code ms ss h.1)
 
@@ -64,9 +65,9 @@ layout-code [] (s ∷ ss) h = absurd h
 layout-code (m ∷ ms) [] h = absurd h
 layout-code (m ∷ ms) (s ∷ ss) h =
     let others = flat_map (phasing_and_message further_phasing) ss in
-    each-append IsInCode (phasing_and_message first_phasing s)
+    each_append IsInCode (phasing_and_message first_phasing s)
     (others ++ replicate end_positions end_position) (one-code first_phasing m s h.0)
-    (each-append IsInCode others (replicate end_positions end_position) (others-code ms ss h.1)
+    (each_append IsInCode others (replicate end_positions end_position) (others-code ms ss h.1)
     (tt, (tt, (tt, tt))))
 
 pub broadcast-code : (messages : List MessageView) (positions : List SentPosition)

@@ -89,7 +89,7 @@ pub c-prints : character_of 3 Letters ≡ Some 67
 unfolding character_of row_of table
 c-prints = refl
 
-n-prints : character_of 14 Letters ≡ Some 78
+pub n-prints : character_of 14 Letters ≡ Some 78
 unfolding character_of row_of table
 n-prints = refl
 

@@ -18,6 +18,7 @@ use Rattle.circular_buffer.specs.Buffer.{keep_last}
 use Rattle.nx_code.specs.Word.{elements_from, number_of, value_of, is_wrong}
 use Rattle.nx_code.proofs.lemmas.Packed.{length-elements_from, elements_from-drop}
 use Rattle.nx_code.proofs.lemmas.Packed.{elements_from-join, number_of-elements_from}
+use Rattle.nx_code.proofs.lemmas.Word.{elements_from-number_of}
 use Rattle.nx_sync.specs.Words.{marked_words}
 use Rattle.nx_sync.specs.private.Eight.{wrong_ones, marks_after_words}
 use Rattle.nx_sync.specs.private.MarkBits.{marks_in, padded}
@@ -63,29 +64,14 @@ padded_last xs = elim (cases_lt (length xs) 64) [
       ∙ (ap (λ i. drop i (keep_last 64 xs)) z ∙ sym (keep_last-padded 64 xs many))
 ]
 
--- as many bits as these are those of their number
-bits_of : (xs : List Bool) → elements_from (length xs) (number_of xs) ≡ xs
-unfolding elements_from number_of
-bits_of [] = refl
-bits_of (true ∷ xs) =
-    let odd : (1 + 2 * number_of xs) % 2 ≡ 1 = omega arith in
-    let half : (1 + 2 * number_of xs) / 2 ≡ number_of xs = omega arith in
-    ap₂ (λ b n. (b == 1) ∷ elements_from (length xs) n) odd half
-    ∙ ap (λ ys. true ∷ ys) (bits_of xs)
-bits_of (false ∷ xs) =
-    let even : (0 + 2 * number_of xs) % 2 ≡ 0 = omega arith in
-    let half : (0 + 2 * number_of xs) / 2 ≡ number_of xs = omega arith in
-    ap₂ (λ b n. (b == 1) ∷ elements_from (length xs) n) even half
-    ∙ ap (λ ys. false ∷ ys) (bits_of xs)
-
 pub bits_of-eight : (xs : List Bool) → length xs ≡ 8 → elements_from 8 (number_of xs) ≡ xs
-bits_of-eight xs l = ap (λ n. elements_from n (number_of xs)) (sym l) ∙ bits_of xs
+bits_of-eight xs l = ap (λ n. elements_from n (number_of xs)) (sym l) ∙ elements_from-number_of xs
 
 pub bit_of : (b : Bool) (v : ℕ) → v ≡ value_of b → elements_from 1 v ≡ b ∷ []
 unfolding number_of
 bit_of b v is =
     let e : v ≡ number_of (b ∷ []) = omega (arith, is) in
-    ap (elements_from 1) e ∙ bits_of (b ∷ [])
+    ap (elements_from 1) e ∙ elements_from-number_of (b ∷ [])
 
 -- what is missing isn't set
 unset : (count bits : ℕ) → number_of (padded (marks_in count bits)) ≡ bits
@@ -94,7 +80,7 @@ unset count bits is =
     ap (elements_from 64) (sym is)
     ∙ (ap (λ n. elements_from n (number_of (padded (marks_in count bits))))
     (sym (length-padded 64 (marks_in count bits)))
-    ∙ bits_of (padded (marks_in count bits)))
+    ∙ elements_from-number_of (padded (marks_in count bits)))
 
 pub length-marks_in : (count bits : ℕ) → count ≤ 64 → length (marks_in count bits) ≡ count
 length-marks_in count bits within =
