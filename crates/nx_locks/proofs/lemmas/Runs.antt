@@ -17,7 +17,7 @@ use Rattle.nx_fec.specs.air_files.Scanner.{elements_kept, line_with}
 use Rattle.nx_fec.specs.declared.air_files.line_reader.NextLine.{NextLine}
 use Rattle.nx_fec.specs.declared.air_files.line_reader.NextLine.TheVariants as next
 use Rattle.nx_fec.specs.declared.air_files.lines.LineKind.{LineKind}
-use Rattle.nx_fec.specs.air_files.Lines.{IsAirFile, IsLineRefused, StopsAt, air_limit, elements_of}
+use Rattle.nx_fec.specs.air_files.Lines.{IsLineRefused, elements_of}
 use Rattle.nx_fec.specs.air_files.Lines.{file_of, line_bytes}
 use Rattle.nx_fec.specs.declared.air_files.line_reader.LineReader.{LineReader}
 use Rattle.nx_fec.specs.declared.fault.AirFault.{AirFault}
@@ -43,7 +43,7 @@ use Rattle.nx_receiver.specs.declared.air_file_runs.listen_fault.LineRefusal.The
 use Rattle.nx_receiver.proofs.lemmas.listening.Lines.{of-kind}
 use Rattle.nx_receiver.proofs.lemmas.listening.Runs.{next-refused}
 use Rattle.nx_receiver.proofs.lemmas.receiver.Events.{bits_of-more}
-use Rattle.nx_locks.specs.Run.{AnswersShowing, ExplainsShowing, HasShown, HasShownAll, IsReportOf}
+use Rattle.nx_locks.specs.Run.{AnswersShowing, ExplainsShowing, HasShown}
 use Rattle.nx_locks.specs.Run.{IsReportOfLines, ShowsLocks}
 use Rattle.nx_locks.specs.private.ReportWriter.{HasClosed, HasFew}
 use Rattle.nx_receiver.specs.air_file_runs.Listen.{air_fault}

@@ -19,7 +19,7 @@ use Rattle.nx_copies.specs.copies.FoundCopies.{past_copies, found_to_end}
 use Rattle.nx_copies.proofs.lemmas.locks.Found.{text_placed, place_in-get_or, all_in_placed}
 use Rattle.nx_copies.proofs.lemmas.locks.Found.{length-bytes_of}
 use Rattle.nx_copies.proofs.lemmas.locks.Texts.{one_taken}
-use Rattle.nx_copies.proofs.lemmas.once.Rising.{Above, Rises, above_later, rises_append, rises_map}
+use Rattle.nx_copies.proofs.lemmas.once.Rising.{Rises, above_later, rises_append, rises_map}
 use Rattle.nx_copies.proofs.lemmas.emissions.Copies.{copies_rise, copies_within}
 
 -- what a word prints is one byte at most, at the end of the word

@@ -3,11 +3,10 @@ use Rattle.std.proofs.Common.{◌≡◌, ℕ, ◌<◌, ◌≤◌, length, take, 
 use Rattle.std.proofs.Common.{◌⊎◌, inl, inr, Option}
 use Rattle.std.proofs.Common.{List, [], ◌∷◌, ◌++◌, sym, ap, ◌∙◌, subst, append_assoc}
 use Rattle.std.proofs.Common.{append-nil, arith}
-use Rattle.std.specs.List.{AllByRecursion}
 use Rattle.std.specs.Io.KnownBytes.{Appends}
 use Rattle.std.proofs.lemmas.List.{length-append}
 use Rattle.std.proofs.lemmas.List.Concat.{flat_map-append}
-use Rattle.nx_fec.specs.air_files.AirFile.{Line, IsLine, spelling}
+use Rattle.nx_fec.specs.air_files.AirFile.{Line, spelling}
 use Rattle.nx_fec.specs.Transfers.{HasWritten}
 use Rattle.nx_fec.specs.air_files.Lines.{IsAtByte, IsCause, Scanning, Scans, StopsIn, file_of}
 use Rattle.nx_fec.specs.air_files.Lines.{StopsAt, line_bytes}

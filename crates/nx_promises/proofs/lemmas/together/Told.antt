@@ -4,8 +4,7 @@ use Rattle.std.proofs.Common.{◌≡◌, ℕ, ◌+◌, ◌-◌, true, List, [], 
 use Rattle.std.proofs.Common.{drop, take, Some, is_some, unwrap_or, refl, sym, ap, ◌∙◌, arith}
 use Rattle.std.proofs.Common.{append_assoc, append-nil}
 use Rattle.std.proofs.lemmas.List.{length-append, map-append, take_at}
-use Rattle.nx_code.specs.Reading.{character_of, combination, shift_after_all, text}
-use Rattle.nx_code.specs.Table.{row_of, table}
+use Rattle.nx_code.specs.Reading.{combination, shift_after_all, text}
 use Rattle.nx_code.specs.declared.shifts.Shift.{Shift}
 use Rattle.nx_code.specs.declared.shifts.Shift.TheVariants.{Figures, Letters}
 use Rattle.nx_envelope.specs.Copies.{Ending, ending_of, errors_of, less_newline}

@@ -9,7 +9,7 @@ use Rattle.nx_memory.specs.Memory.{most_entries}
 use Rattle.nx_memory.specs.declared.memories.entry.MemoryEntry.{MemoryEntry}
 use Rattle.nx_copies.specs.Events.{Event, Setting, Start, elements_among, first_setting}
 use Rattle.nx_copies.specs.Events.{setting_after_all, settings}
-use Rattle.nx_copies.specs.copies.FoundCopies.{FoundCopy, TaggedCopy, headed_copy, tagged_copies}
+use Rattle.nx_copies.specs.copies.FoundCopies.{TaggedCopy, headed_copy}
 use Rattle.nx_copies.specs.copies.Log.{HasPrinted, PrintsToEnd}
 use Rattle.nx_copies.specs.copies.Printing.{entries_after, entries_made, entry_made, if_printed}
 use Rattle.nx_copies.specs.copies.Printing.{is_printed, printed_copies}
@@ -18,7 +18,7 @@ use Rattle.nx_copies.specs.declared.entry.EntryHead.{EntryHead}
 use Rattle.nx_copies.specs.declared.copy_taker.Over.{Over}
 use Rattle.nx_receiver.specs.private.Awaiting.{AwaitsOver}
 use Rattle.nx_receiver.specs.private.ListenerBegins.{tagged-by}
-use Rattle.nx_copies.specs.hearing.CopyHearer.{HasEnded, HasEndedAll, HearerStands, copies_by}
+use Rattle.nx_copies.specs.hearing.CopyHearer.{HasEnded, HasEndedAll, HearerStands}
 use Rattle.nx_copies.specs.hearing.CopyHearer.{IsOver}
 use Rattle.nx_copies.specs.hearing.CopyHearing.{CopyHearing, in_force}
 use Rattle.nx_copies.proofs.lemmas.printing.Logged.{printed_copies-append, entries_after-append}
