@@ -14,10 +14,6 @@ use Rattle.nx_copies.specs.LockReader.{LockReading}
 use Rattle.nx_copies.specs.LockReader.{ReadsLock}
 use Rattle.nx_copies.specs.copies.LockText.{AreNext, text_after}
 
--- the place of word k of the lock at t: the index of its last bit
-abbrev pub word_place : ℕ → ℕ → ℕ
-word_place t k = t + 7 * k + 6
-
 -- the copy that is held stands open
 abbrev pub is_open : HeldCopy → Bool
 is_open held.Nothing = false

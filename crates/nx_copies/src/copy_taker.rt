@@ -3,7 +3,8 @@
 
 ghost use Rattle.std.specs.Prelude.{◌≡◌};
 ghost use Rattle.nx_envelope.specs.Finder.{is_over};
-ghost use Rattle.nx_copies.specs.hearing.CopyTaker.{ReadsStep, setting_of, tag_after};
+ghost use Rattle.nx_copies.specs.hearing.CopyTaker.{setting_of, tag_after};
+ghost use Rattle.nx_copies.specs.private.CopyTaker.{ReadsStep};
 ghost use Rattle.nx_copies.specs.hearing.CopyHearer.{IsFresh, over_with};
 
 use crate::lock_reader::LockReader;

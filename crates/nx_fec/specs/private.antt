@@ -6,3 +6,4 @@ pub mod ScannerFields
 pub mod ScannerKept
 pub mod WordClasses
 pub mod WholeLines
+pub mod LineRuns

@@ -1,6 +1,6 @@
 -- What contracts say of a receiver of a channel, of whatever kind: the layer contract of a listener
 -- (this profile).
-use Rattle.std.specs.Prelude.{◌≡◌, ℕ, ◌<◌, Bool, List, [], ◌∷◌, ◌++◌, Option, Some, None, take}
+use Rattle.std.specs.Prelude.{◌≡◌, ℕ, ◌<◌, Bool, List, [], ◌∷◌, ◌++◌, Option, None, take}
 use Rattle.nx_copies.specs.Events.{Event, Start, elements, first_setting, setting_after_all}
 use Rattle.nx_copies.specs.copies.FoundCopies.{TaggedCopy}
 use Rattle.nx_copies.specs.copies.Log.{IsPrinting, Printing}
@@ -58,17 +58,3 @@ abbrev pub NothingAwaited : {R Over : Type 0} → ReceiverKind R → AwaitsFinis
 NothingAwaited {R} kind awaits =
     (start : Start) (receiver : R) (history : List Event) (log : List TaggedCopy)
     → awaits start receiver history log None → kind.stands start receiver history log
-
--- Whatever a receiver was given before, what awaited to be finished was. Where that brought
--- nothing, it heard so many of these elements. With the last of them it handed out these copies,
--- and none before.
-pub record FinishesNextBy {R Over : Type 0} (kind : ReceiverKind R) (awaits : AwaitsFinish R Over)
-    (old new : R) (over : Over) (bits : List Bool) (count : ℕ) (copies : List TaggedCopy)
-    : Type 0 where
-  pub stands : (start : Start) (history : List Event) (log : List TaggedCopy)
-      → awaits start old history log (Some over)
-      → kind.stands start new (history ++ elements (take count bits)) (log ++ copies)
-  pub first : (start : Start) (history : List Event) (log : List TaggedCopy)
-      → awaits start old history log (Some over)
-      → (k : ℕ) → k < count
-      → kind.printing.so_far start (history ++ elements (take k bits)) log

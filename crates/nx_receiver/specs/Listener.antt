@@ -7,15 +7,14 @@ use Rattle.nx_fec.specs.Transfers.{count_of}
 use Rattle.nx_envelope.specs.Moment.{last_moment}
 use Rattle.nx_fec.specs.declared.air_files.channel.Channel.{Channel}
 use Rattle.nx_fec.specs.declared.air_files.channel.Channel.TheVariants.{Zero, One, Two}
-use Rattle.nx_memory.specs.Ring.{RingMemory}
 use Rattle.nx_memory.specs.declared.memories.entry.MemoryEntry.{MemoryEntry}
 use Rattle.nx_copies.specs.Events as events
-use Rattle.nx_copies.specs.Events.{Event, elements_among}
+use Rattle.nx_copies.specs.Events.{elements_among}
 use Rattle.nx_copies.specs.copies.FoundCopies.{TaggedCopy}
 use Rattle.nx_copies.specs.copies.InTurn.{PrintsInTurnBy}
 use Rattle.nx_copies.specs.copies.Log.{IsEntry}
 use Rattle.nx_receiver.specs.ChannelReceiver.{ReceiverKind}
-use Rattle.nx_receiver.specs.Receiver.{Receiving, entry_list, plain_kind, text_of}
+use Rattle.nx_receiver.specs.Receiver.{Receiving, entry_list, plain_kind}
 use Rattle.nx_copies.specs.copies.Shares.{Given, MarkedCopy, Starts, copies_on, marked, share}
 use Rattle.nx_copies.specs.copies.Shares.{start_on}
 use Rattle.nx_copies.specs.copies.Shares.{to_all, to_one}
@@ -31,15 +30,6 @@ pub record ListeningOver (R : Type 0) : Type 0 where
   pub elements : ℕ
   pub entries : ℕ
 
--- the listener of the program, whose receivers judge each copy alone, and whose memories are rings
--- with a table
-abbrev pub Listening : Type 0
-Listening = ListeningOver (Receiving RingMemory)
-
--- the entries of such a memory
-abbrev pub content : RingMemory → List MemoryEntry
-content memory = memory.content
-
 -- the receiver of a channel
 abbrev pub receiver_on : {R : Type 0} → ListeningOver R → Channel → R
 receiver_on listener Zero = listener.on_0
@@ -49,11 +39,6 @@ receiver_on listener Two = listener.on_2
 -- the text that the receiver of a channel has: that of the entry which it handed out last
 abbrev pub text_by : {R : Type 0} → ReceiverKind R → ListeningOver R → Channel → List ℕ
 text_by kind listener channel = kind.text_of (receiver_on listener channel)
-
--- the same where each copy is judged alone: that of the copy that stands open there, or that ended
--- last
-abbrev pub text_on : {M : Type 0} → ListeningOver (Receiving M) → Channel → List ℕ
-text_on listener channel = text_of (receiver_on listener channel)
 
 -- the same listener with this as the receiver of a channel
 abbrev pub with_receiver : {R : Type 0} → ListeningOver R → Channel → R → ListeningOver R
@@ -69,15 +54,6 @@ starts_by kind listener = record {
   entries = λ channel. (kind.start_of (receiver_on listener channel)).entries;
   refused = λ channel. (kind.start_of (receiver_on listener channel)).refused;
 }
-
--- the same of a listener that judges each copy alone, where this tells the entries of a memory; and
--- of the listener of the program
-abbrev pub starts_over : {M : Type 0} → (M → List MemoryEntry) → ListeningOver (Receiving M)
-    → Starts
-starts_over entries_of listener = starts_by (plain_kind entries_of) listener
-
-abbrev pub starts_of : Listening → Starts
-starts_of = starts_over content
 
 -- the elements among what is given, of all channels
 abbrev pub elements_in : Given → List Bool
@@ -131,9 +107,6 @@ abbrev pub HearsOver : {M : Type 0} → (M → List MemoryEntry) → Starts
     → ListeningOver (Receiving M) → List Given → List MarkedCopy → Type 0
 HearsOver entries_of starts listener given copies =
     HearsBy (plain_kind entries_of) starts listener given copies
-
-abbrev pub HearsGiven : Starts → Listening → List Given → List MarkedCopy → Type 0
-HearsGiven = HearsOver content
 
 -- no copy, or one, of which these bytes are the entry
 abbrev pub IsSpelled : Channel → Bool → List TaggedCopy → List ℕ → Type 0

@@ -7,3 +7,4 @@ pub mod Runs
 pub mod StateParts
 pub mod Taken
 pub mod Unlogged
+pub mod ChannelReceiver

@@ -9,7 +9,8 @@ ghost use Rattle.nx_copies.specs.Events.{Event, Start, at_moment, elements};
 ghost use Rattle.nx_copies.specs.copies.FoundCopies.{TaggedCopy};
 ghost use Rattle.nx_receiver.specs.Commands.{refuses_vital, said};
 ghost use Rattle.nx_receiver.specs.declared.command.Command.TheVariants.{RefuseSubject};
-ghost use Rattle.nx_receiver.specs.ChannelReceiver.{AwaitsFinish, FinishesNextBy, HandsOutNoneBeforeBy, HearsUpToBy, IsReceiver, NothingAwaited, ReceiverKind, TakesEventBy};
+ghost use Rattle.nx_receiver.specs.ChannelReceiver.{AwaitsFinish, HandsOutNoneBeforeBy, HearsUpToBy, IsReceiver, NothingAwaited, ReceiverKind, TakesEventBy};
+ghost use Rattle.nx_receiver.specs.private.ChannelReceiver.{FinishesNextBy};
 ghost use Rattle.nx_receiver.specs.Moments.{Refuses};
 ghost use Rattle.nx_receiver.specs.Receiver.{HeadsText, entry_list, headed_list};
 

@@ -5,7 +5,8 @@ ghost use Rattle.std.specs.Prelude.{◌≡◌, ◌+◌, ◌<◌, ◌≤◌, ◌�
 ghost use Rattle.nx_envelope.specs.Moment.{last_moment};
 ghost use Rattle.nx_memory.specs.Saved.{AreSavedEntries};
 ghost use Rattle.nx_receiver.specs.air_file_runs.Chain.{Leaves};
-ghost use Rattle.nx_receiver.specs.ChannelReceiver.{FinishesNextBy, HandsOutNoneBeforeBy, HearsUpToBy, TakesEventBy};
+ghost use Rattle.nx_receiver.specs.ChannelReceiver.{HandsOutNoneBeforeBy, HearsUpToBy, TakesEventBy};
+ghost use Rattle.nx_receiver.specs.private.ChannelReceiver.{FinishesNextBy};
 ghost use Rattle.nx_receiver.specs.Commands.{refuses_vital, said};
 ghost use Rattle.nx_receiver.specs.declared.command.Command.TheVariants.{RefuseSubject};
 ghost use Rattle.nx_copies.specs.Events as events;

@@ -22,7 +22,7 @@ use Rattle.nx_copies.specs.copies.LockText.{positions, text_after}
 use Rattle.nx_copies.specs.declared.copy_taker.Over.{Over}
 use Rattle.nx_copies.specs.declared.copy_taker.CopyTaker.{CopyTaker}
 use Rattle.nx_copies.specs.hearing.CopyHearer.{over_with}
-use Rattle.nx_copies.specs.hearing.CopyTaker.{ReadsStep}
+use Rattle.nx_copies.specs.private.CopyTaker.{ReadsStep}
 use Rattle.nx_copies.proofs.lemmas.QuietElements.{before_last, no_word}
 use Rattle.nx_copies.proofs.lemmas.copy_hearer.Hears.{step_taken}
 use Rattle.nx_copies.proofs.lemmas.locks.Growing.{whole_heard}

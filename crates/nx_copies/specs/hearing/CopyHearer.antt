@@ -11,7 +11,6 @@ use Rattle.nx_sync.specs.Words.{word_of_lock, first_role, whole_words}
 use Rattle.nx_sync.specs.declared.step.Role.{Role}
 use Rattle.nx_envelope.specs.Copies.{Copy, open_headers}
 use Rattle.nx_envelope.specs.Finder.{HasReady, is_ready}
-use Rattle.nx_envelope.specs.declared.found.Found.{Found}
 use Rattle.nx_envelope.specs.declared.found.HeldCopy.{HeldCopy}
 use Rattle.nx_envelope.specs.declared.found.HeldCopy.TheVariants as held
 use Rattle.nx_envelope.specs.declared.identity.Identity.{Identity}
@@ -25,8 +24,8 @@ use Rattle.nx_copies.specs.hearing.CopyHearing.{CopyHearing, in_force}
 use Rattle.nx_copies.specs.LockReader.{LockReading}
 use Rattle.nx_copies.specs.copies.LockText.{PlacedByte, bytes_of}
 use Rattle.nx_copies.specs.copies.FoundCopies.{FoundCopy, place_of_header, ended_in, past_text, past_copies}
-use Rattle.nx_copies.specs.copies.FoundCopies.{standing_text, ended_so_far, found_to_end, TaggedCopy}
-use Rattle.nx_copies.specs.copies.FoundCopies.{tag, tagged_found}
+use Rattle.nx_copies.specs.copies.FoundCopies.{standing_text, ended_so_far, TaggedCopy}
+use Rattle.nx_copies.specs.copies.FoundCopies.{tag}
 
 -- what a copy of the identity bears of what is in force at its second digit
 abbrev pub tag_of : Setting → Identity → CopyTag
@@ -67,14 +66,6 @@ pub record HasEnded (first : Setting) (bits : List Bool) (settings : List Settin
   pub now : Now
   pub stands : IsNow bits locks now
   pub ended : copies ≡ copies_by first settings (ended_so_far bits locks now)
-
--- After these elements, and where they end, these copies have ended, in order.
-pub record HasEndedAll (first : Setting) (bits : List Bool) (settings : List Setting)
-    (copies : List TaggedCopy) : Type 0 where
-  pub locks : List Lock
-  pub now : Now
-  pub stands : IsNow bits locks now
-  pub ended : copies ≡ copies_by first settings (found_to_end bits locks now)
 
 -- The reader and the tag stand after these elements: those copies have ended, the reader stands
 -- after the words of the lock that stands, and the tag is that of the copy that stands open.
@@ -164,11 +155,6 @@ pub record HearsAll (old new : CopyHearing) (heard : List Bool) (answer : Option
   pub hears : (first : Setting) (bits : List Bool) (settings : List Setting)
       (copies : List TaggedCopy) → HearerStands first old bits settings copies
       → HearsBits first old new bits settings copies heard answer
-
--- the copy that was handed out, with its tag
-abbrev pub handed_out : Option Found → CopyTag → List TaggedCopy
-handed_out None kept = []
-handed_out (Some found) kept = tagged_found found kept.moment kept.is_selected ∷ []
 
 -- the copy that can be taken, of what a finder holds, with its tag; none where none can
 abbrev pub ready_in : HeldCopy → List ℕ → CopyTag → List TaggedCopy

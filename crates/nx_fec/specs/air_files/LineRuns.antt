@@ -2,7 +2,7 @@
 -- was given for it (this profile).
 use Rattle.std.specs.Prelude.{◌≡◌, ℕ, ◌≤◌, List, ◌++◌, length, Option, ⊤}
 use Rattle.nx_fec.specs.air_files.AirFile.{Line}
-use Rattle.nx_fec.specs.air_files.Lines.{IsAirFile, IsCause, StopsAt, air_limit, file_of}
+use Rattle.nx_fec.specs.air_files.Lines.{IsCause, StopsAt, air_limit, file_of}
 use Rattle.nx_fec.specs.Transfers.{Extent, HasWritten}
 use Rattle.nx_fec.specs.declared.fault.LineFault.{LineFault}
 use Rattle.nx_fec.specs.declared.fault.LineFault.TheVariants.{TooLong, LineLong, LineCut, BadLine}
@@ -26,13 +26,6 @@ abbrev pub HasFaultAfter : (List Line → Type 0) → List ℕ → LineFault →
 HasFaultAfter holds bytes why = StopsAt bytes (λ lines rest more.
     IsCause air_limit (length (file_of lines ++ rest)) lines rest more why × holds lines)
 
--- a file was read to its end, and all its lines were taken
-pub record HasHeardAll (taken : List Line → Type 0) (bytes : List ℕ) (count : ℕ) : Type 0 where
-  pub lines : List Line
-  pub file : IsAirFile air_limit bytes lines
-  pub here : taken lines
-  pub counted : count ≡ length lines
-
 -- bytes that wait to be written, and how many were written before them
 pub record Waiting : Type 0 where
   pub bytes : List ℕ
@@ -43,15 +36,3 @@ pub record HasGiven (old new : Option (List ℕ)) (batch : Waiting) (given : Lis
   pub done : List ℕ
   pub written : HasWritten old new done batch.sent
   pub whole : given ≡ done ++ batch.bytes
-
--- Of a taker of lines: that it stood so at first and stands so now, after these lines, for which it
--- gave these bytes.
-abbrev pub TakerRelation : Type 0 → Type 1
-TakerRelation T = T → T → List Line → List ℕ → Type 0
-
--- a taker stands so after these lines, and this holds of the bytes that it gave for them
-pub record HasTaken {T : Type 0} (stands : TakerRelation T) (first now : T) (lines : List Line)
-    (holds : List ℕ → Type 0) : Type 0 where
-  pub given : List ℕ
-  pub stood : stands first now lines given
-  pub here : holds given

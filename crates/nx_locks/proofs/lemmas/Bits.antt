@@ -12,7 +12,7 @@ use Rattle.nx_sync.specs.Words.{word_of_lock, first_role, whole_words, heard_wor
 use Rattle.nx_sync.specs.declared.step.Role.{Role}
 use Rattle.nx_sync.proofs.lemmas.states.UniqueStates.{IsNow-past}
 use Rattle.nx_copies.specs.copies.Log.{is_of_lines, missing_newline}
-use Rattle.nx_copies.specs.ReaderWords.{word_place}
+use Rattle.nx_copies.specs.private.ReaderWords.{word_place}
 use Rattle.nx_copies.proofs.lemmas.locks.Growing.{whole_heard}
 use Rattle.nx_locks.specs.LockText.{headers_shown, shown_text, wrong_words}
 use Rattle.nx_locks.specs.Report.{AreShown, IsNowShown, IsOpened, IsPastShown, moment_at}

@@ -11,7 +11,7 @@ use Rattle.nx_sync.specs.declared.step.Change.{Change}
 use Rattle.nx_sync.proofs.lemmas.states.KeptPast.{word_at-more, wrong_in-same}
 use Rattle.nx_copies.specs.copies.Log.{is_of_lines, missing_newline}
 use Rattle.nx_copies.specs.copies.LockText.{bytes_of, text_by}
-use Rattle.nx_copies.specs.ReaderWords.{word_place}
+use Rattle.nx_copies.specs.private.ReaderWords.{word_place}
 use Rattle.nx_copies.specs.copies.LockText.{text_after}
 use Rattle.nx_copies.proofs.lemmas.locks.Texts.{bytes_are_reading, lock_text-more}
 use Rattle.nx_copies.proofs.lemmas.copy_hearer.Bits as watching

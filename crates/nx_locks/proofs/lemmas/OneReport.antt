@@ -11,7 +11,7 @@ use Rattle.nx_fec.specs.air_files.AirFile.{Line}
 use Rattle.nx_fec.specs.air_files.Lines.{air_limit}
 use Rattle.nx_fec.proofs.lemmas.lines.LineLaws.{IsAirFile-unique}
 use Rattle.nx_copies.specs.copies.Log.{missing_newline}
-use Rattle.nx_copies.specs.ReaderWords.{word_place}
+use Rattle.nx_copies.specs.private.ReaderWords.{word_place}
 use Rattle.nx_locks.specs.LockText.{headers_shown, shown_text, wrong_words}
 use Rattle.nx_locks.specs.Report.{AreShown, IsClosing, IsEndShown, IsNowShown, IsOpened, IsOpening}
 use Rattle.nx_locks.specs.Report.{IsReport, IsReportSoFar, IsShown, moment_at, now_headers}

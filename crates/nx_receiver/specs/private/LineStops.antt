@@ -2,7 +2,8 @@
 use Rattle.std.specs.Prelude.{◌≡◌, ℕ, List, [], ◌∷◌, ◌++◌, Option}
 use Rattle.nx_fec.specs.Transfers.{Contents, CountedDevice}
 use Rattle.nx_fec.specs.air_files.AirFile.{Line}
-use Rattle.nx_fec.specs.air_files.LineRuns.{HasGiven, HasTaken, Waiting}
+use Rattle.nx_fec.specs.air_files.LineRuns.{HasGiven, Waiting}
+use Rattle.nx_fec.specs.private.LineRuns.{HasTaken}
 use Rattle.nx_receiver.specs.ChannelReceiver.{ReceiverKind}
 use Rattle.nx_receiver.specs.Listener.{ListeningOver, starts_by}
 use Rattle.nx_receiver.specs.air_file_runs.Listen.{HasLoggedSome, IsLogOfLinesBy}

@@ -13,7 +13,7 @@ use Rattle.nx_receiver.specs.Moments.{Refuses}
 use Rattle.nx_copies.specs.copies.InTurn.{PrintAllToEndBy, PrintsInTurnBy}
 use Rattle.nx_receiver.specs.air_file_runs.Listen.{AreTaken, given_by, has_moment, moment_after}
 use Rattle.nx_copies.specs.copies.Log.{IsLog, Printing, plain}
-use Rattle.nx_receiver.specs.Listener.{HearsBy, Listening, ListeningOver, content}
+use Rattle.nx_receiver.specs.Listener.{HearsBy, ListeningOver}
 use Rattle.nx_receiver.specs.Listener.{elements_given, receiver_on, starts_by}
 use Rattle.nx_receiver.specs.Receiver.{plain_kind}
 use Rattle.nx_receiver.specs.ChannelReceiver.{HandsOutNoneBeforeBy, ReceiverKind}
@@ -25,6 +25,37 @@ use Rattle.nx_receiver.specs.declared.air_file_runs.listen_fault.LineRefusal.{Li
 use Rattle.nx_receiver.specs.declared.air_file_runs.listen_fault.LineRefusal.TheVariants.{NoMoment}
 use Rattle.nx_receiver.specs.declared.air_file_runs.listen_fault.LineRefusal.TheVariants.{Moment}
 use Rattle.nx_receiver.specs.declared.air_file_runs.listen_fault.LineRefusal.TheVariants.{Vital}
+use Rattle.nx_memory.specs.Ring.{RingMemory}
+use Rattle.nx_memory.specs.declared.memories.entry.MemoryEntry.{MemoryEntry}
+use Rattle.nx_receiver.specs.Receiver.{Receiving, text_of}
+use Rattle.nx_receiver.specs.Listener.{HearsOver}
+
+-- the listener of the program, whose receivers judge each copy alone, and whose memories are rings
+-- with a table
+abbrev pub Listening : Type 0
+Listening = ListeningOver (Receiving RingMemory)
+
+-- the entries of such a memory
+abbrev pub content : RingMemory → List MemoryEntry
+content memory = memory.content
+
+-- the text that the receiver of a channel has, where each copy is judged alone: that of the copy
+-- that stands open there, or that ended last
+abbrev pub text_on : {M : Type 0} → ListeningOver (Receiving M) → Channel → List ℕ
+text_on listener channel = text_of (receiver_on listener channel)
+
+-- with what a listener starts that judges each copy alone, where this tells the entries of a
+-- memory; and with what that of the program does
+abbrev pub starts_over : {M : Type 0} → (M → List MemoryEntry) → ListeningOver (Receiving M)
+    → Starts
+starts_over entries_of listener = starts_by (plain_kind entries_of) listener
+
+abbrev pub starts_of : Listening → Starts
+starts_of = starts_over content
+
+-- the listener of the program stands after what was given, and has printed these copies
+abbrev pub HearsGiven : Starts → Listening → List Given → List MarkedCopy → Type 0
+HearsGiven = HearsOver content
 
 -- The receiver of a channel, whatever it was given before, hears so many of these elements, and
 -- hands out these copies with the last of them, and none before.

@@ -4,7 +4,8 @@ use Rattle.std.specs.Io.KnownBytes.{Appends}
 use Rattle.nx_fec.specs.Transfers.{AnswersToEnd, Contents, Devices, Extent, HasWritten, Transfers}
 use Rattle.nx_fec.specs.Transfers.{WroteSome, contents_of, line_by_line}
 use Rattle.nx_fec.specs.air_files.AirFile.{Line}
-use Rattle.nx_fec.specs.air_files.LineRuns.{HasGiven, HasHeardAll, HasTaken, Waiting}
+use Rattle.nx_fec.specs.air_files.LineRuns.{HasGiven, Waiting}
+use Rattle.nx_fec.specs.private.LineRuns.{HasHeardAll, HasTaken}
 use Rattle.nx_fec.specs.declared.air_files.line_runs.LinesRead.{LinesRead}
 use Rattle.nx_copies.specs.copies.Log.{Printing}
 use Rattle.nx_copies.specs.copies.Shares.{Starts}

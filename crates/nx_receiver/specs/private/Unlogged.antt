@@ -3,11 +3,11 @@
 use Rattle.std.specs.Prelude.{ℕ, List, Option, Result, IfOk, ⊤}
 use Rattle.nx_fec.specs.Transfers.{AnswersToEnd, CountedDevice, Extent, Input, Reads, input}
 use Rattle.nx_fec.specs.air_files.AirFile.{Line}
-use Rattle.nx_fec.specs.air_files.LineRuns.{HasHeardAll}
+use Rattle.nx_fec.specs.private.LineRuns.{HasHeardAll}
 use Rattle.nx_memory.specs.Saved.{SavedStates}
 use Rattle.nx_copies.specs.copies.Log.{plain}
 use Rattle.nx_copies.specs.copies.Shares.{Given, Starts, starts_from}
-use Rattle.nx_receiver.specs.Listener.{Listening, starts_of}
+use Rattle.nx_receiver.specs.private.Listener.{Listening, starts_of}
 use Rattle.nx_receiver.specs.air_file_runs.Chain.{HasGoneOn}
 use Rattle.nx_receiver.specs.air_file_runs.Listen.{AnswersUnlogged, unknown_contents}
 use Rattle.nx_receiver.specs.air_file_runs.ListenFrom.{reported}

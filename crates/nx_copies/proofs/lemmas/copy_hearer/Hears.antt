@@ -17,7 +17,8 @@ use Rattle.nx_copies.specs.LockReader.{LockReading}
 use Rattle.nx_copies.specs.copies.FoundCopies.{TaggedCopy, past_copies}
 use Rattle.nx_envelope.specs.declared.found.TextEvent.{TextEvent}
 use Rattle.nx_envelope.specs.declared.found.TextEvent.TheVariants as events
-use Rattle.nx_copies.specs.hearing.CopyTaker.{Hears, ReadsStep, setting_of}
+use Rattle.nx_copies.specs.hearing.CopyTaker.{Hears, setting_of}
+use Rattle.nx_copies.specs.private.CopyTaker.{ReadsStep}
 use Rattle.nx_copies.specs.hearing.CopyTaker.{tag_after, hearer_of}
 use Rattle.nx_copies.specs.hearing.CopyHearer.{HasEnded, HearsBits, IsFresh, IsOver, ReadsOver}
 use Rattle.nx_copies.specs.hearing.CopyHearer.{TagGoesOn, HearerStands, all_in_force, as_it_was}

@@ -26,9 +26,11 @@ use Rattle.nx_copies.specs.copies.LockText.{text_after}
 use Rattle.nx_copies.specs.hearing.CopyHearing.{CopyHearing}
 use Rattle.nx_copies.specs.LockReader.{LockReading}
 use Rattle.nx_copies.specs.copies.LockText.{PlacedByte, bytes_of, text_by}
-use Rattle.nx_copies.specs.hearing.CopyHearer.{CopyIsOver, HasEndedAll, HasTag, IsFresh}
+use Rattle.nx_copies.specs.hearing.CopyHearer.{CopyIsOver, HasTag, IsFresh}
+use Rattle.nx_copies.specs.private.CopyHearer.{HasEndedAll}
 use Rattle.nx_copies.specs.hearing.CopyHearer.{IsOver, LockIsOver, ReadsNow, HearerStands, copies_by}
-use Rattle.nx_copies.specs.hearing.CopyHearer.{handed_out, over_now, over_with, ready_copies}
+use Rattle.nx_copies.specs.hearing.CopyHearer.{over_now, over_with, ready_copies}
+use Rattle.nx_copies.specs.private.CopyHearer.{handed_out}
 use Rattle.nx_copies.specs.hearing.CopyHearer.{ready_copy, ready_in}
 use Rattle.nx_copies.specs.hearing.CopyHearer.{setting_in, tag_of}
 use Rattle.nx_copies.specs.copies.FoundCopies.{place_of_header}

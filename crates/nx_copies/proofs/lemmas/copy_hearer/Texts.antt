@@ -19,7 +19,8 @@ use Rattle.nx_copies.specs.declared.copy_taker.CopyTag.{CopyTag}
 use Rattle.nx_copies.specs.Events.{Setting}
 use Rattle.nx_copies.specs.copies.FoundCopies.{FoundCopy, place_in, found_copy, ended_in, TaggedCopy}
 use Rattle.nx_copies.specs.copies.FoundCopies.{tag}
-use Rattle.nx_copies.specs.ReaderWords.{IsBrought, word_place}
+use Rattle.nx_copies.specs.ReaderWords.{IsBrought}
+use Rattle.nx_copies.specs.private.ReaderWords.{word_place}
 use Rattle.nx_copies.specs.copies.LockText.{text_after}
 use Rattle.nx_copies.specs.copies.LockText.{PlacedByte, printed_by, text_by, bytes_of}
 use Rattle.nx_copies.specs.hearing.CopyTaker.{tag_after}

@@ -17,11 +17,12 @@ use Rattle.nx_copies.specs.Events.{Setting}
 use Rattle.nx_copies.specs.copies.FoundCopies.{FoundCopy, ended_in, past_copies, standing_text}
 use Rattle.nx_copies.specs.copies.FoundCopies.{ended_so_far, TaggedCopy}
 use Rattle.nx_copies.specs.LockReader.{ReadsLock}
-use Rattle.nx_copies.specs.ReaderWords.{word_place}
+use Rattle.nx_copies.specs.private.ReaderWords.{word_place}
 use Rattle.nx_copies.specs.copies.LockText.{PlacedByte, lock_text}
 use Rattle.nx_copies.specs.hearing.CopyHearer.{HasTag, IsOver, LockIsOver, ReadsNow, ReadsOver}
 use Rattle.nx_copies.specs.hearing.CopyHearer.{HearerStands, copies_by, over_with}
-use Rattle.nx_copies.specs.hearing.CopyTaker.{ReadsWord, setting_of, tag_after}
+use Rattle.nx_copies.specs.hearing.CopyTaker.{setting_of, tag_after}
+use Rattle.nx_copies.specs.private.CopyTaker.{ReadsWord}
 use Rattle.nx_copies.specs.hearing.CopyTaker.{hearer_of}
 use Rattle.nx_copies.specs.hearing.CopyHearing.{CopyHearing}
 use Rattle.nx_copies.proofs.lemmas.QuietElements.{no_word}

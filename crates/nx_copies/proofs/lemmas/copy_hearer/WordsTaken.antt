@@ -22,7 +22,8 @@ use Rattle.nx_copies.specs.Events.{Setting}
 use Rattle.nx_copies.specs.copies.FoundCopies.{TaggedCopy}
 use Rattle.nx_copies.specs.LockReader.{LockReading}
 use Rattle.nx_copies.specs.ReaderWords.{HearsPairsUpTo, HearsPairs}
-use Rattle.nx_copies.specs.hearing.CopyTaker.{Hears, ReadsStep, ReadsWord, hearer_of, setting_of}
+use Rattle.nx_copies.specs.hearing.CopyTaker.{Hears, hearer_of, setting_of}
+use Rattle.nx_copies.specs.private.CopyTaker.{ReadsStep, ReadsWord}
 use Rattle.nx_copies.specs.hearing.CopyTaker.{tag_after}
 use Rattle.nx_copies.specs.hearing.CopyTakerLaws.{hears_on}
 use Rattle.nx_copies.specs.hearing.CopyHearer.{HearerStands, HearsBits, all_in_force, over_with}

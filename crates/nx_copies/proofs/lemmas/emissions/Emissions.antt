@@ -25,7 +25,7 @@ use Rattle.nx_station.proofs.lemmas.reception.PathWords.{not-empty}
 use Rattle.nx_sync.specs.Words.{word_of_lock, first_role, whole_words, losing_count}
 use Rattle.nx_sync.specs.Locks.{Lock, Now, locked, IsNow}
 use Rattle.nx_copies.specs.copies.FoundCopies.{FoundCopy, ended_in, past_copies, ended_so_far}
-use Rattle.nx_copies.specs.ReaderWords.{word_place}
+use Rattle.nx_copies.specs.private.ReaderWords.{word_place}
 use Rattle.nx_copies.specs.copies.LockText.{lock_text}
 use Rattle.nx_copies.proofs.lemmas.locks.Growing.{ended_go_on}
 use Rattle.nx_copies.proofs.lemmas.emissions.Locks.{KeepsLock, LockedThrough, word_of, locked_through}

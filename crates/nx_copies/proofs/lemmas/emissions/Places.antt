@@ -11,7 +11,7 @@ use Rattle.nx_envelope.specs.Copies.{Copy, copies}
 use Rattle.nx_sync.specs.declared.step.Role.{Role}
 use Rattle.nx_sync.specs.Locks.{Lock, Past, Now, hunting, locked, IsNow}
 use Rattle.nx_sync.specs.Words.{word_of_lock, first_role, whole_words}
-use Rattle.nx_copies.specs.ReaderWords.{word_place}
+use Rattle.nx_copies.specs.private.ReaderWords.{word_place}
 use Rattle.nx_copies.specs.copies.LockText.{PlacedByte, positions, taken_at, printed_by, text_by}
 use Rattle.nx_copies.specs.copies.LockText.{lock_text, bytes_of}
 use Rattle.nx_copies.specs.copies.FoundCopies.{FoundCopy, place_in, found_copy, all_in, past_text}

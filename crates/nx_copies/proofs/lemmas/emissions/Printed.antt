@@ -21,7 +21,7 @@ use Rattle.nx_sync.specs.Words.{role_of}
 use Rattle.nx_sync.specs.declared.step.Role.{Role}
 use Rattle.nx_sync.specs.declared.step.Role.TheVariants.{Dx}
 use Rattle.nx_copies.specs.copies.FoundCopies.{place_in, found_copy, ended_in}
-use Rattle.nx_copies.specs.ReaderWords.{word_place}
+use Rattle.nx_copies.specs.private.ReaderWords.{word_place}
 use Rattle.nx_copies.specs.copies.LockText.{PlacedByte, positions, taken_at, printed_by, text_by}
 use Rattle.nx_copies.specs.copies.LockText.{bytes_of}
 use Rattle.nx_copies.proofs.lemmas.locks.Found.{place_in-get_or, length-bytes_of}

@@ -21,7 +21,7 @@ use Rattle.nx_envelope.proofs.lemmas.copies.OneOpenCopy.{grown, copies_parts, on
 use Rattle.nx_sync.specs.Locks.{IsNow, Lock, Now}
 use Rattle.nx_sync.specs.declared.step.Role.{Role}
 use Rattle.nx_sync.proofs.lemmas.states.UniqueStates.{locks-unique, now-unique}
-use Rattle.nx_copies.specs.ReaderWords.{word_place}
+use Rattle.nx_copies.specs.private.ReaderWords.{word_place}
 use Rattle.nx_copies.specs.copies.LockText.{PlacedByte, printed_by, text_by, bytes_of}
 use Rattle.nx_copies.specs.copies.FoundCopies.{place_of_header}
 use Rattle.nx_copies.specs.copies.FoundCopies.{FoundCopy, place_in, found_copy, ended_in, open_in}

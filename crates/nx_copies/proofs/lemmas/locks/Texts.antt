@@ -12,7 +12,7 @@ use Rattle.nx_sync.specs.Words.{word_of_lock, first_role, role_of, is_dx}
 use Rattle.nx_sync.specs.Locks.{IsPattern}
 use Rattle.nx_sync.specs.declared.step.Role.{Role}
 use Rattle.nx_sync.proofs.lemmas.states.KeptPast.{word_at-more, first_role-more}
-use Rattle.nx_copies.specs.ReaderWords.{word_place}
+use Rattle.nx_copies.specs.private.ReaderWords.{word_place}
 use Rattle.nx_copies.specs.copies.LockText.{taken_at, positions, PlacedByte, printed_by, text_by}
 use Rattle.nx_copies.specs.copies.LockText.{lock_text, bytes_of}
 

@@ -10,9 +10,11 @@ use Rattle.nx_fec.specs.air_files.AirFile.{Line, spelling}
 use Rattle.nx_fec.specs.Transfers.{HasWritten}
 use Rattle.nx_fec.specs.air_files.Lines.{IsAtByte, IsCause, Scanning, Scans, StopsIn, file_of}
 use Rattle.nx_fec.specs.air_files.Lines.{StopsAt, line_bytes}
-use Rattle.nx_fec.specs.air_files.LineRuns.{HasGiven, HasTaken}
+use Rattle.nx_fec.specs.air_files.LineRuns.{HasGiven}
+use Rattle.nx_fec.specs.private.LineRuns.{HasTaken}
 use Rattle.nx_fec.specs.air_files.LineRuns.{IsCutOnlyAtEnd}
-use Rattle.nx_fec.specs.air_files.LineRuns.{TakerRelation, Waiting}
+use Rattle.nx_fec.specs.air_files.LineRuns.{Waiting}
+use Rattle.nx_fec.specs.private.LineRuns.{TakerRelation}
 use Rattle.nx_fec.specs.declared.fault.LineFault.{LineFault}
 use Rattle.nx_fec.specs.declared.fault.LineFault.TheVariants.{TooLong, LineLong, LineCut, BadLine}
 use Rattle.nx_fec.proofs.lemmas.devices.Piece.{piece-parts}

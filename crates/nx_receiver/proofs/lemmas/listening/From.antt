@@ -4,14 +4,14 @@ use Rattle.std.specs.Io.KnownBytes.{Appends}
 use Rattle.nx_fec.specs.air_files.AirFile.{Line}
 use Rattle.nx_fec.specs.Transfers.{Contents, CountedDevice, Devices, HasWritten, contents_of}
 use Rattle.nx_fec.specs.Transfers.{devices}
-use Rattle.nx_fec.specs.air_files.LineRuns.{HasHeardAll, HasTaken}
+use Rattle.nx_fec.specs.private.LineRuns.{HasHeardAll, HasTaken}
 use Rattle.nx_fec.specs.declared.air_files.line_runs.LinesRead.{LinesRead}
 use Rattle.nx_memory.specs.Saved.{SavedStates}
 use Rattle.nx_receiver.specs.air_file_runs.Chain.{HasGoneOn}
 use Rattle.nx_receiver.specs.air_file_runs.Listen.{AreTaken, IsLogOfFile, Listens}
 use Rattle.nx_receiver.specs.air_file_runs.Listen.{given_by}
 use Rattle.nx_receiver.specs.air_file_runs.ListenFrom.{GoesOnBy, reported}
-use Rattle.nx_receiver.specs.Listener.{Listening, content, starts_of}
+use Rattle.nx_receiver.specs.private.Listener.{Listening, content, starts_of}
 use Rattle.nx_receiver.specs.Receiver.{plain_kind}
 use Rattle.nx_receiver.specs.private.Listener.{HasClosed, IsListening, StandsFromBy}
 use Rattle.nx_receiver.specs.private.Runs.{TakesLinesBy}

@@ -5,7 +5,8 @@ use Rattle.std.proofs.Common.{subst}
 use Rattle.nx_fec.specs.air_files.AirFile.{Line, moment, elements, refuse_station, accept_station}
 use Rattle.nx_fec.specs.air_files.AirFile.{refuse_subject, accept_subject}
 use Rattle.nx_fec.specs.air_files.LineReading.{SaysLatest}
-use Rattle.nx_fec.specs.air_files.LineRuns.{HasGiven, HasTaken, Waiting}
+use Rattle.nx_fec.specs.air_files.LineRuns.{HasGiven, Waiting}
+use Rattle.nx_fec.specs.private.LineRuns.{HasTaken}
 use Rattle.nx_fec.specs.declared.air_files.line_reader.NextLine.TheVariants as next
 use Rattle.nx_fec.specs.air_files.Lines.{elements_of}
 use Rattle.nx_fec.specs.air_files.Channels.{channel_of}
@@ -20,9 +21,11 @@ use Rattle.nx_copies.specs.Events as fed
 use Rattle.nx_receiver.specs.air_file_runs.Listen.{given_by, given_of, is_moment_line}
 use Rattle.nx_receiver.specs.ChannelReceiver.{IsReceiver, ReceiverKind, TakesEventBy}
 use Rattle.nx_copies.specs.copies.Shares.{Given, Starts, to_one}
-use Rattle.nx_receiver.specs.Listener.{Listening, ListeningOver}
+use Rattle.nx_receiver.specs.Listener.{ListeningOver}
+use Rattle.nx_receiver.specs.private.Listener.{Listening}
 use Rattle.nx_receiver.specs.private.Listener.{IsListening, IsListeningBy}
-use Rattle.nx_receiver.specs.Listener.{content, receiver_on}
+use Rattle.nx_receiver.specs.Listener.{receiver_on}
+use Rattle.nx_receiver.specs.private.Listener.{content}
 use Rattle.nx_receiver.specs.private.Listener.{RefusesLine, StandsFromBy}
 use Rattle.nx_receiver.specs.private.PlainReceiver.{plain-receiver}
 use Rattle.nx_receiver.specs.Listener.{starts_by, then_elements, with_receiver}

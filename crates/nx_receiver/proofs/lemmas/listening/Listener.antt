@@ -34,7 +34,8 @@ use Rattle.nx_receiver.specs.Listener.{with_receiver}
 use Rattle.nx_receiver.specs.private.Listener.{BeginsListeningBy, BeginsLogBy, HearsTo}
 use Rattle.nx_receiver.specs.private.Listener.{HearsLogBy, IsListeningBy, StandsFromBy}
 use Rattle.nx_copies.specs.copies.Log.{IsLog, Printing}
-use Rattle.nx_receiver.specs.ChannelReceiver.{AwaitsFinish, FinishesNextBy, HandsOutNoneBeforeBy}
+use Rattle.nx_receiver.specs.ChannelReceiver.{AwaitsFinish, HandsOutNoneBeforeBy}
+use Rattle.nx_receiver.specs.private.ChannelReceiver.{FinishesNextBy}
 use Rattle.nx_receiver.specs.ChannelReceiver.{HearsUpToBy, IsReceiver, NothingAwaited}
 use Rattle.nx_receiver.specs.ChannelReceiver.{ReceiverKind, TakesEventBy}
 use Rattle.nx_receiver.specs.Receiver.{HeadsText, headed_list}

@@ -12,7 +12,8 @@ use Rattle.nx_fec.specs.air_files.AirFile.{Line, moment, elements, refuse_statio
 use Rattle.nx_fec.specs.air_files.AirFile.{refuse_subject, accept_subject, element_digit, mark_bytes}
 use Rattle.nx_fec.specs.Transfers.{Contents, CountedDevice, Devices, Extent, HasWritten, Reads, Writes}
 use Rattle.nx_fec.specs.Transfers.{WroteSome, as_read, contents_of, devices, input, input_of}
-use Rattle.nx_fec.specs.air_files.LineRuns.{HasGiven, HasHeardAll, HasTaken, Waiting}
+use Rattle.nx_fec.specs.air_files.LineRuns.{HasGiven, Waiting}
+use Rattle.nx_fec.specs.private.LineRuns.{HasHeardAll, HasTaken}
 use Rattle.nx_fec.specs.air_files.Lines.{IsLineRefused, air_limit, elements_of, file_of, line_bytes}
 use Rattle.nx_fec.specs.declared.air_files.line_runs.LinesRead.{LinesRead}
 use Rattle.nx_fec.proofs.lemmas.line_runs.LineRun.{HasGiven-empty, HasTaken-map}

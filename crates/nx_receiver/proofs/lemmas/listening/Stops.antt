@@ -6,7 +6,7 @@ use Rattle.nx_fec.specs.Transfers.{Contents, Devices, Extent, HasWritten, Input,
 use Rattle.nx_fec.specs.Transfers.{contents_of, input_of}
 use Rattle.nx_fec.specs.air_files.AirFile.{IsLine, Line}
 use Rattle.nx_fec.specs.air_files.LineReading.{EndsEarly, HasGivenAll, HasGivenLines}
-use Rattle.nx_fec.specs.air_files.LineRuns.{HasTaken}
+use Rattle.nx_fec.specs.private.LineRuns.{HasTaken}
 use Rattle.nx_fec.specs.air_files.Lines.{IsLineRefused, air_limit}
 use Rattle.nx_fec.specs.declared.air_files.line_reader.LineReader.{LineReader}
 use Rattle.nx_fec.specs.declared.air_files.line_runs.LinesRead.{LinesRead}
@@ -22,7 +22,8 @@ use Rattle.nx_fec.proofs.lemmas.line_runs.LinesRead.{read-failed, read-fault}
 use Rattle.nx_copies.specs.copies.Log.{Printing, plain}
 use Rattle.nx_copies.specs.copies.Shares.{Starts}
 use Rattle.nx_receiver.specs.ChannelReceiver.{ReceiverKind}
-use Rattle.nx_receiver.specs.Listener.{Listening, ListeningOver, content, starts_by, starts_of}
+use Rattle.nx_receiver.specs.Listener.{ListeningOver, starts_by}
+use Rattle.nx_receiver.specs.private.Listener.{Listening, content, starts_of}
 use Rattle.nx_receiver.specs.Receiver.{plain_kind}
 use Rattle.nx_receiver.specs.air_file_runs.Listen.{HasLoggedBy, HasLoggedSome, IsLogOfLinesBy}
 use Rattle.nx_receiver.specs.air_file_runs.Listen.{RefusesAfter, air_fault, file_fault, refusal_fault}

@@ -6,11 +6,11 @@ use Rattle.std.specs.declared.alloc.AllocError.{AllocError}
 use Rattle.std.proofs.KnownBytes.{Consumes-nil}
 use Rattle.nx_fec.specs.Transfers.{CountedDevice, Extent, input, read_from}
 use Rattle.nx_fec.specs.air_files.AirFile.{Line}
-use Rattle.nx_fec.specs.air_files.LineRuns.{HasHeardAll}
+use Rattle.nx_fec.specs.private.LineRuns.{HasHeardAll}
 use Rattle.nx_fec.proofs.lemmas.devices.TransferLaws.{Ok-not_err, Reads-on, read_failed-none}
 use Rattle.nx_memory.specs.Saved.{SavedStates}
 use Rattle.nx_copies.specs.copies.Shares.{Starts, starts_from}
-use Rattle.nx_receiver.specs.Listener.{Listening, starts_of}
+use Rattle.nx_receiver.specs.private.Listener.{Listening, starts_of}
 use Rattle.nx_receiver.specs.air_file_runs.Listen.{AnswersUnlogged, AreTaken, given_by, unknown_contents}
 use Rattle.nx_receiver.specs.private.Listener.{HasClosed, IsListening}
 use Rattle.nx_receiver.specs.private.Unlogged.{AnswersLeaving, ExplainsUnlogged, HearsLines, ListensUnlogged}

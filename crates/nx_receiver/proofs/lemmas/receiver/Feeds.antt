@@ -12,7 +12,8 @@ use Rattle.nx_copies.specs.declared.copy_taker.Over.{Over}
 use Rattle.nx_copies.specs.Events.{Event, Setting, Start, elements_among, element, first_setting}
 use Rattle.nx_copies.specs.Events.{setting_after_all, settings, elements}
 use Rattle.nx_copies.specs.copies.Log.{Printing}
-use Rattle.nx_receiver.specs.ChannelReceiver.{AwaitsFinish, FinishesNextBy, HandsOutNoneBeforeBy}
+use Rattle.nx_receiver.specs.ChannelReceiver.{AwaitsFinish, HandsOutNoneBeforeBy}
+use Rattle.nx_receiver.specs.private.ChannelReceiver.{FinishesNextBy}
 use Rattle.nx_receiver.specs.ChannelReceiver.{HearsUpToBy, NothingAwaited, ReceiverKind}
 use Rattle.nx_receiver.specs.Receiver.{HandsOutNoneBefore, Receiving, Stands, StandsOver}
 use Rattle.nx_receiver.specs.private.Awaiting.{Awaits, AwaitsOver, HearsUpTo}

@@ -18,7 +18,8 @@ use Rattle.nx_copies.specs.declared.entry.EntryHead.{EntryHead}
 use Rattle.nx_copies.specs.declared.copy_taker.Over.{Over}
 use Rattle.nx_receiver.specs.private.Awaiting.{AwaitsOver}
 use Rattle.nx_receiver.specs.private.ListenerBegins.{tagged-by}
-use Rattle.nx_copies.specs.hearing.CopyHearer.{HasEnded, HasEndedAll, HearerStands}
+use Rattle.nx_copies.specs.hearing.CopyHearer.{HasEnded, HearerStands}
+use Rattle.nx_copies.specs.private.CopyHearer.{HasEndedAll}
 use Rattle.nx_copies.specs.hearing.CopyHearer.{IsOver}
 use Rattle.nx_copies.specs.hearing.CopyHearing.{CopyHearing, in_force}
 use Rattle.nx_copies.proofs.lemmas.printing.Logged.{printed_copies-append, entries_after-append}

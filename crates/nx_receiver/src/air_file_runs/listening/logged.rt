@@ -4,7 +4,8 @@
 ghost use Rattle.std.specs.Prelude.{◌≡◌, ℕ, List, [], ◌∷◌, ◌++◌, Option, Some, Err, IfErr, MatchResult, OnOk};
 ghost use Rattle.nx_fec.specs.air_files.AirFile.{Line};
 ghost use Rattle.nx_fec.specs.air_files.LineReading.{SaysLatest, latest_of, lines_given};
-ghost use Rattle.nx_fec.specs.air_files.LineRuns.{HasGiven, HasTaken};
+ghost use Rattle.nx_fec.specs.air_files.LineRuns.{HasGiven};
+ghost use Rattle.nx_fec.specs.private.LineRuns.{HasTaken};
 ghost use Rattle.nx_fec.specs.declared.air_files.line_reader.NextLine.TheVariants as next;
 ghost use Rattle.nx_fec.specs.Transfers.{Writes, devices};
 ghost use Rattle.nx_receiver.specs.Listener.{ListeningOver, starts_by};

@@ -5,7 +5,7 @@ use Rattle.nx_fec.proofs.lemmas.devices.TransferLaws.{Ok-not_err, Writes-sound}
 use Rattle.nx_receiver.specs.air_file_runs.Listen.{Listens, given_by}
 use Rattle.nx_copies.specs.copies.Log.{plain}
 use Rattle.nx_copies.specs.copies.Shares.{Starts, starts_from}
-use Rattle.nx_receiver.specs.Listener.{content, starts_of}
+use Rattle.nx_receiver.specs.private.Listener.{content, starts_of}
 use Rattle.nx_receiver.specs.Receiver.{plain_kind}
 use Rattle.nx_receiver.specs.private.Listener.{StandsFromBy}
 use Rattle.nx_receiver.specs.declared.air_file_runs.listen_fault.ListenFault.TheVariants.{Write}

@@ -1,7 +1,8 @@
 use Rattle.std.proofs.Common.{◌≡◌, true, List, []}
 use Rattle.nx_fec.specs.air_files.AirFile.{Line}
 use Rattle.nx_fec.specs.air_files.LineReading.{HasGivenLines, answers_left, counted_of, is_over}
-use Rattle.nx_fec.specs.air_files.LineRuns.{HasGiven, HasTaken}
+use Rattle.nx_fec.specs.air_files.LineRuns.{HasGiven}
+use Rattle.nx_fec.specs.private.LineRuns.{HasTaken}
 use Rattle.nx_receiver.specs.Listener.{ListeningOver}
 use Rattle.nx_receiver.specs.private.Listener.{StandsFromBy}
 use Rattle.nx_receiver.proofs.air_file_runs.listening.logged.listen_lines.Given as goal

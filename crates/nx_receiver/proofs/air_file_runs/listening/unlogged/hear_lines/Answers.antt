@@ -5,7 +5,7 @@ use Rattle.nx_fec.specs.air_files.LineReading.{GivesNext, SaysLatest}
 use Rattle.nx_fec.specs.air_files.Scanner.{line_with}
 use Rattle.nx_fec.specs.declared.air_files.line_reader.NextLine.TheVariants as line
 use Rattle.nx_fec.proofs.lemmas.line_runs.LineReading.{Given-not_read, next-line, unfailed}
-use Rattle.nx_receiver.specs.Listener.{starts_of}
+use Rattle.nx_receiver.specs.private.Listener.{starts_of}
 use Rattle.nx_receiver.specs.private.Unlogged.{StandsUnlogged}
 use Rattle.nx_receiver.proofs.lemmas.listening.Lines.{last-line, refused-heard}
 use Rattle.nx_receiver.proofs.lemmas.listening.Stops.{hears-all, hears-early, hears-to}

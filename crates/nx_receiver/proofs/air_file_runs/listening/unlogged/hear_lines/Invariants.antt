@@ -1,7 +1,7 @@
 use Rattle.std.proofs.Common.{◌≡◌, List, []}
 use Rattle.nx_fec.specs.air_files.AirFile.{Line}
 use Rattle.nx_fec.specs.air_files.LineReading.{HasGivenLines, answers_left, counted_of}
-use Rattle.nx_receiver.specs.Listener.{Listening}
+use Rattle.nx_receiver.specs.private.Listener.{Listening}
 use Rattle.nx_receiver.specs.private.Unlogged.{StandsUnlogged}
 use Rattle.nx_receiver.proofs.air_file_runs.listening.unlogged.hear_lines.Given as goal
 

@@ -1,6 +1,7 @@
 use Rattle.std.proofs.Common.{◌≡◌, ◌∙◌, ◌++◌, drop, map, take, subst, arith, rules}
 use Rattle.std.proofs.lemmas.List.{take_all}
-use Rattle.nx_receiver.specs.Listener.{text_on, then_elements}
+use Rattle.nx_receiver.specs.Listener.{then_elements}
+use Rattle.nx_receiver.specs.private.Listener.{text_on}
 use Rattle.nx_receiver.specs.Receiver.{headed_list}
 use Rattle.nx_copies.specs.copies.Shares.{marked}
 use Rattle.nx_receiver.specs.private.Unlogged.{HasHeardGiven}

@@ -1,6 +1,6 @@
 use Rattle.std.proofs.Common.{◌∙◌, [], sym}
 use Rattle.nx_receiver.specs.air_file_runs.Listen.{given_by}
-use Rattle.nx_receiver.specs.Listener.{content, starts_of}
+use Rattle.nx_receiver.specs.private.Listener.{content, starts_of}
 use Rattle.nx_receiver.specs.Receiver.{plain_kind}
 use Rattle.nx_receiver.specs.private.Unlogged.{StandsUnlogged}
 use Rattle.std.proofs.lemmas.Result.{err_from_is_err_and}
