@@ -3,7 +3,7 @@ use Rattle.std.proofs.Common.{◌≡◌, ℕ, zero, suc, ◌+◌, ◌<◌, ◌�
 use Rattle.std.proofs.Common.{length, map, replicate, refl, sym, ap, ap₂, ◌∙◌, subst, arith, append-nil}
 use Rattle.std.proofs.Common.{length-append, lit<, lit≤, ◌-◌, not, ◌&&◌, ◌||◌, cond, nat_lt}
 use Rattle.std.specs.List.{All, Contains}
-use Rattle.std.proofs.lemmas.Bool.{le-ltb, true≢false}
+use Rattle.std.proofs.lemmas.Bool.{and_right, le-ltb, true≢false}
 use Rattle.std.proofs.lemmas.List.{length-replicate}
 use Rattle.std.proofs.lemmas.List.Elements.{All-append, All-cons, All-drop, All-head, All-nil}
 use Rattle.std.proofs.lemmas.List.Elements.{All-tail, All-weaker}
@@ -353,10 +353,6 @@ few-at-first before between after first later e none named again =
 abbrev IsOld : ℕ → MemoryEntry → Type 0
 IsOld moment entry = entry.moment + seconds_known ≤ moment
 
-both-false : (a b : Bool) → b ≡ false → (a && b) ≡ false
-both-false true b e = e
-both-false false b e = refl
-
 -- so none of them is live
 none-known : (moment : ℕ) (entries : List MemoryEntry) → All (IsOld moment) entries
     → is_known eb02 moment entries ≡ false
@@ -366,7 +362,7 @@ none-known moment (entry ∷ entries) all =
     let aged : nat_lt (moment - entry.moment) seconds_known ≡ false =
     le-ltb (moment - entry.moment) seconds_known (omega (arith, old)) in
     ap₂ (λ a b. a || b)
-    (both-false (same_identity entry.identity eb02) (nat_lt (moment - entry.moment) seconds_known)
+    (and_right (same_identity entry.identity eb02) (nat_lt (moment - entry.moment) seconds_known)
     aged)
     (none-known moment entries (All-tail (IsOld moment) entry entries all))
 

@@ -9,7 +9,7 @@ ghost use Rattle.nx_memory.specs.declared.memories.entry.MemoryEntry.{MemoryEntr
 ghost use Rattle.nx_watch.specs.Start.{is_in_order, is_last_known, is_near, passing, remembered_at, renews};
 
 use arrayvec::ArrayVec;
-use nx_memory::{CAPACITY, LIFETIME, MemoryEntry, PlainRecall, Recall, Saved, Selection};
+use nx_memory::{CAPACITY, MemoryEntry, PlainRecall, Recall, Saved, Selection, is_recent};
 
 /// What is remembered at a moment of the entries that a log remembers on a channel, at most 200 in
 /// their order. They are chosen in three steps. First, those less than 66 hours after the moment
@@ -38,7 +38,7 @@ fn near_entries(moment: u64, entries: &[MemoryEntry]) -> ArrayVec<MemoryEntry, C
 {
     let mut near = ArrayVec::new();
     for entry in entries {
-        if entry.moment.saturating_sub(moment) < LIFETIME {
+        if is_recent(moment, entry.moment) {
             near.push(*entry);
         }
     }
@@ -88,7 +88,7 @@ fn is_renewed(entry: &MemoryEntry, behind: &[MemoryEntry]) -> bool
     ensures { result ≡ list_any (λ other. renews entry.now other) behind.now }
 {
     behind.iter().any(|other| {
-        entry.identity == other.identity && other.moment.saturating_sub(entry.moment) < LIFETIME
+        entry.identity == other.identity && is_recent(entry.moment, other.moment)
     })
 }
 

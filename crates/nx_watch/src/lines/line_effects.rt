@@ -13,7 +13,7 @@ ghost use Rattle.nx_watch.specs.private.Effects.{is_acting, IsAnswer, IsEffect, 
 use crate::lines::no_effect::NoEffect;
 use crate::lines::refusal::Refusal;
 use nx_fec::LineKind;
-use nx_memory::LIFETIME;
+use nx_memory::is_recent;
 use nx_receiver::MomentFault;
 
 /// The moments with which a watch starts, in whole seconds since 1970-01-01 00:00:00 UTC.
@@ -260,7 +260,7 @@ impl LineEffects {
         match fault {
             MomentFault::Range { given: _ } => Effect::Nothing(NoEffect::PastLast),
             MomentFault::Back { last, given } => {
-                let is_far_back = last.saturating_sub(given) >= LIFETIME;
+                let is_far_back = !is_recent(given, last);
                 let went_far_back = self.keep_moment(is_far_back);
                 if is_far_back && went_far_back {
                     return Effect::Ends { last, given };

@@ -20,6 +20,7 @@ use Rattle.nx_copies.specs.copies.FoundCopies.{TaggedCopy}
 use Rattle.nx_copies.specs.copies.Printing.{entries_after, entry_of, printed_copies}
 use Rattle.nx_copies.specs.copies.Shares.{MarkedCopy, Starts, copies_on, saved_of, starts_from}
 use Rattle.nx_copies.proofs.lemmas.channels.Shares.{copies_on-append}
+use Rattle.nx_receiver.proofs.lemmas.chain.Moments.{newest-before}
 use Rattle.nx_receiver.proofs.lemmas.chain.Printing.{last_agrees, same_log}
 use Rattle.nx_copies.proofs.lemmas.printing.Logged.{printed_copies-append}
 use Rattle.nx_watch.specs.Start.{remembered_at}
@@ -55,32 +56,6 @@ pub known-is : (moment : ℕ) (log : List MarkedCopy) (channel : Channel)
 known-is moment log Zero = refl
 known-is moment log One = refl
 known-is moment log Two = refl
-
-later-first : (one other : Option ℕ) → unwrap_or one 0 ≤ unwrap_or (later_of one other) 0
-later-first None other = omega arith
-later-first (Some m) None = omega arith
-later-first (Some m) (Some n) = le-max_left m n
-
-later-second : (one other : Option ℕ) → unwrap_or other 0 ≤ unwrap_or (later_of one other) 0
-later-second None other = omega arith
-later-second (Some m) None = omega arith
-later-second (Some m) (Some n) = le-max_right m n
-
--- the moment at which three receivers start isn't before the newest entry of any channel
-pub newest-before : (saved : SavedStates) (channel : Channel)
-    → newest_moment (saved_of saved channel).entries ≤ (starts_from saved).moment
-newest-before saved channel =
-    let one = newest_of saved.on_0.entries in
-    let two = newest_of saved.on_1.entries in
-    let three = newest_of saved.on_2.entries in
-    let first = later-first one (later_of two three) in
-    let rest = later-second one (later_of two three) in
-    elim channel as (λ (channel : Channel).
-    newest_moment (saved_of saved channel).entries ≤ (starts_from saved).moment) [
-      | Zero ↦ first
-      | One ↦ omega (arith, rest, later-first two three)
-      | Two ↦ omega (arith, rest, later-second two three)
-    ]
 
 -- ---- a watch
 

@@ -8,6 +8,7 @@ use Rattle.std.specs.Prelude.{Result, Ok, Err}
 use Rattle.std.specs.Io.KnownBytes.{Consumes}
 use Rattle.std.proofs.KnownBytes.{Consumes-nil}
 use Rattle.std.proofs.Math.Seq.{take-append_seam}
+use Rattle.std.proofs.lemmas.Bool.{and_parts, not-true}
 use Rattle.std.proofs.lemmas.List.{take-append-drop, take_all}
 use Rattle.std.proofs.lemmas.List.Elements.{All-contains}
 use Rattle.nx_code.specs.Lists.{Begins}
@@ -107,33 +108,21 @@ begins-either (x ∷ one) (y ∷ other) all h k =
 
 -- ---- lines behind which a watch goes on
 
-right-true : (a b : Bool) → (a && b) ≡ true → b ≡ true
-right-true true b e = e
-right-true false b e = cc
-
-left-true : (a b : Bool) → (a && b) ≡ true → a ≡ true
-left-true true b e = refl
-left-true false b e = cc
-
-not-false : (b : Bool) → not b ≡ true → b ≡ false
-not-false true e = cc
-not-false false e = refl
-
 -- none of them ends it
 on-behind : (first : ℕ) (moments : List ℕ) (before more : List (Option Line)) (line : Option Line)
     → goes_on_behind first moments (before ++ line ∷ more) ≡ true
     → ends_watch first (moments ++ moments_said before) line ≡ false
 on-behind first moments [] more line on =
     ap (λ ms. ends_watch first ms line) (append-nil moments)
-    ∙ not-false (ends_watch first moments line)
-    (left-true (not (ends_watch first moments line))
-    (goes_on_behind first (moments ++ moment_said line) more) on)
+    ∙ not-true (ends_watch first moments line)
+    (and_parts (not (ends_watch first moments line))
+    (goes_on_behind first (moments ++ moment_said line) more) on).0
 on-behind first moments (l ∷ before) more line on =
     ap (λ ms. ends_watch first ms line)
     (sym (append_assoc moments (moment_said l) (moments_said before)))
     ∙ on-behind first (moments ++ moment_said l) before more line
-    (right-true (not (ends_watch first moments l))
-    (goes_on_behind first (moments ++ moment_said l) (before ++ line ∷ more)) on)
+    (and_parts (not (ends_watch first moments l))
+    (goes_on_behind first (moments ++ moment_said l) (before ++ line ∷ more)) on).1
 
 -- A line that says a moment stands behind those before it, with the moment that the watch sets too.
 with-moment : (start : StartMoments) (before : List (Option Line)) (n : ℕ)

@@ -41,7 +41,7 @@ use Rattle.nx_left_on.specs.Chain.{stopped_closing}
 use Rattle.nx_left_on.specs.Together.{IsKeptWhole, IsOver, StandsLast}
 use Rattle.nx_left_on.proofs.lemmas.Acting.{acting-act}
 use Rattle.nx_left_on.proofs.lemmas.chains.Chains.{entries-append, entries_on, kept-append, known-is}
-use Rattle.nx_left_on.proofs.lemmas.chains.Chains.{newest-before}
+use Rattle.nx_receiver.proofs.lemmas.chain.Moments.{newest-before}
 use Rattle.nx_left_on.proofs.lemmas.chains.Links.{all-front, copies_of-append, none-parts}
 use Rattle.nx_left_on.proofs.lemmas.combined.Again.{over-more, printed-over}
 use Rattle.nx_left_on.proofs.lemmas.combined.Named.{same_back}

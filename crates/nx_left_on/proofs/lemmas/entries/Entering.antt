@@ -1,7 +1,7 @@
 -- What a memory can hold is kept by copies whose moments never fall.
 use Rattle.std.proofs.Common.{◌≡◌, ℕ, zero, suc, ◌<◌, ◌≤◌, ◌==◌, Bool, true, false, not, ◌&&◌, ◌||◌, cond, List, []}
 use Rattle.std.proofs.Common.{◌∷◌, ◌++◌, refl, sym, subst, arith, append-nil, append_assoc}
-use Rattle.std.proofs.lemmas.Bool.{and_parts}
+use Rattle.std.proofs.lemmas.Bool.{and_parts, not-true}
 use Rattle.nx_code.specs.Lists.{last_of}
 use Rattle.nx_memory.specs.Content.{IsContent}
 use Rattle.nx_memory.specs.Memory.{content_after, most_entries, newest_moment}
@@ -33,10 +33,6 @@ not-zero zero true e h = cc
 not-zero zero false e h = cc
 not-zero (suc n) b e h = omega arith
 
-false-of : (b : Bool) → not b ≡ true → b ≡ false
-false-of true h = cc
-false-of false h = refl
-
 entered-new : (entries : List MemoryEntry) (copy : TaggedCopy) → is_entered entries copy ≡ true
     → IsNew entries copy
 unfolding is_entered is_printed
@@ -47,7 +43,7 @@ entered-new entries copy h =
     (is_number_00 copy || not (is_remembered entries copy)) inner.0 in
     record {
       unknown = not-known (is_number_00 copy) (is_remembered entries copy)
-          (false-of (is_number_00 copy) outer.1) printed.1;
+          (not-true (is_number_00 copy) outer.1) printed.1;
       numbered = not-zero copy.identity.number (is_number_00 copy) refl outer.1;
     }
 

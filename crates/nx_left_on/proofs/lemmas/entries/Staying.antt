@@ -15,7 +15,7 @@ use Rattle.nx_memory.specs.Memory.{most_entries, newest_moment, seconds_known}
 use Rattle.nx_memory.specs.declared.memories.entry.MemoryEntry.{MemoryEntry}
 use Rattle.nx_memory.proofs.lemmas.Content.{newest_behind}
 use Rattle.nx_watch.specs.Start.{is_in_order, is_last_known, is_near, passing, remembered_at, renews}
-use Rattle.nx_watch.proofs.lemmas.log.Start.{All-passing}
+use Rattle.nx_watch.proofs.lemmas.log.Start.{All-passing, length-passing}
 
 -- an entry of another identity than this one, and not from before it
 pub record IsBehind (entry other : MemoryEntry) : Type 0 where
@@ -100,17 +100,6 @@ stands-near moment entry count entries near s =
         count_by-le-length (is_near moment) s.behind,
       );
     }
-
-length-passing : (test : MemoryEntry → List MemoryEntry → Bool) (entries : List MemoryEntry)
-    → length (passing test entries) ≤ length entries
-length-passing test [] = omega arith
-length-passing test (entry ∷ behind) =
-    let few = length-passing test behind in
-    elim (test entry behind) as (λ b. length (cond b (entry ∷ []) [] ++ passing test behind)
-    ≤ length (entry ∷ behind)) [
-      | true ↦ omega arith
-      | false ↦ omega arith
-    ]
 
 -- those that pass of a list and more
 passing-append : (test : MemoryEntry → List MemoryEntry → Bool) (front back : List MemoryEntry)

@@ -20,16 +20,13 @@ use Rattle.nx_left_on.specs.Chain.{acting_at}
 use Rattle.nx_left_on.specs.Example.{first_moment, one_entry}
 use Rattle.nx_left_on.specs.Shortened.{HearsFrom, IsOldAt, LeavesOutOld}
 use Rattle.nx_left_on.proofs.lemmas.Example.{one-remembered}
+use Rattle.nx_left_on.proofs.lemmas.chains.Chains.{none-remembered}
 use Rattle.nx_left_on.proofs.lemmas.entries.Staying.{newest-append}
 use Rattle.nx_left_on.proofs.lemmas.shortened.Acting.{late-head}
 use Rattle.nx_left_on.proofs.lemmas.shortened.Choosing.{leaves-out}
 use Rattle.nx_left_on.proofs.lemmas.shortened.Starting.{AreBehindOld}
 
 -- ---- one entry
-
-none-left : (channel : Channel) → remembered_on channel [] ≡ []
-unfolding kept_entries
-none-left channel = refl
 
 others-left : (channel : Channel) → AreBehindOld 1735929600 (remembered_on channel one_entry)
     (remembered_on channel [])
@@ -53,7 +50,7 @@ young-stays h = of (h.left_out Zero) (sym (h.split Zero) ∙ one-remembered) (h.
         → front ++ remembered_on Zero [] ≡ entry_of first_copy ∷ []
         → All (IsOldAt 1735929599) front → ⊥
     of [] e old =
-        none (sym (none-left Zero) ∙ e)
+        none (sym (none-remembered Zero) ∙ e)
       where
         none : [] ≡ entry_of first_copy ∷ [] → ⊥
         none e = cc

@@ -153,7 +153,7 @@ later-second (Some m) None = omega arith
 later-second (Some m) (Some n) = le-max_right m n
 
 -- it isn't before the newest entry that was saved of any channel
-newest-before : (saved : SavedStates) (channel : Channel)
+pub newest-before : (saved : SavedStates) (channel : Channel)
     → newest_moment (saved_of saved channel).entries ≤ (starts_from saved).moment
 newest-before saved Zero =
     later-first (newest_of saved.on_0.entries)

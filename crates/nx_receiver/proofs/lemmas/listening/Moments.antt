@@ -38,12 +38,12 @@ IsInRange event = IsUpTo last_moment event
 abbrev pub IsCopyInRange : TaggedCopy → Type 0
 IsCopyInRange copy = copy.moment ≤ last_moment
 
-elements-in_range : (bits : List Bool) → All IsInRange (fed.elements bits)
+pub elements-in_range : (bits : List Bool) → All IsInRange (fed.elements bits)
 elements-in_range [] = All-nil IsInRange
 elements-in_range (bit ∷ bits) =
     All-cons IsInRange (element bit) (fed.elements bits) tt (elements-in_range bits)
 
-one-in_range : (event : Event) → IsInRange event → All IsInRange (event ∷ [])
+pub one-in_range : (event : Event) → IsInRange event → All IsInRange (event ∷ [])
 one-in_range event h = All-cons IsInRange event [] h (All-nil IsInRange)
 
 share-in_range : (b : Bool) (events : List Event) → All IsInRange events

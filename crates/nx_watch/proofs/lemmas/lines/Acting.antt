@@ -8,7 +8,7 @@ use Rattle.std.specs.List.{count_by, position_from}
 use Rattle.std.specs.Prelude.{OnErr, OnOk}
 use Rattle.std.specs.Option.{is_some}
 use Rattle.std.proofs.Math.Seq.{get_or-append_seam}
-use Rattle.std.proofs.lemmas.Bool.{le-leb, leb-false, leb-true}
+use Rattle.std.proofs.lemmas.Bool.{and_from, and_left, and_right, le-leb, leb-false, leb-true}
 use Rattle.std.proofs.lemmas.Bool.Decides.{nat_tests}
 use Rattle.std.proofs.lemmas.List.{take-append-le, take_all}
 use Rattle.std.proofs.lemmas.List.Sums.{sum_by-append}
@@ -96,16 +96,6 @@ keeps-on first moments old new k start has far = record {
 
 -- ---- what a moment does
 
-pub both : (a b : Bool) → a ≡ true → b ≡ true → (a && b) ≡ true
-both a b h k = ap (λ c. c && b) h ∙ k
-
-pub not_first : (a b : Bool) → a ≡ false → (a && b) ≡ false
-not_first a b h = ap (λ c. c && b) h
-
-pub not_second : (a b : Bool) → b ≡ false → (a && b) ≡ false
-not_second true b h = h
-not_second false b h = refl
-
 -- a moment that isn't before the one in force doesn't go far back
 pub taken-near : (first : ℕ) (moments : List ℕ) (n : ℕ) → in_force first moments ≤ n
     → is_far_back first moments n ≡ false
@@ -113,32 +103,29 @@ taken-near first moments n h =
     let later : in_force first moments < n + seconds_known = omega (arith, h) in
     grind (arith, nat_tests)
 
-pub near-leb : (n : ℕ) → n < seconds_known → nat_le seconds_known n ≡ false
-near-leb n near = grind (arith, nat_tests)
-
--- a moment goes far back by how far it lies before the one in force
 pub far-same : (last given force n : ℕ) → last ≡ force → given ≡ n → n < force
-    → nat_le seconds_known (last - given) ≡ nat_le (n + seconds_known) force
+    → not (nat_lt (last - given) seconds_known) ≡ nat_le (n + seconds_known) force
 far-same last given force n is at back =
-    ap₂ (λ a b. nat_le seconds_known (a - b)) is at
-    ∙ elim (nat_le seconds_known (force - n)) as (λ b. nat_le seconds_known (force - n) ≡ b
-    → b ≡ nat_le (n + seconds_known) force) [
+    ap₂ (λ a b. not (nat_lt (a - b) seconds_known)) is at
+    ∙ elim (nat_lt (force - n) seconds_known) as (λ b. nat_lt (force - n) seconds_known ≡ b
+    → not b ≡ nat_le (n + seconds_known) force) [
       | true ↦ λ e.
-          let far : seconds_known ≤ force - n = leb-true seconds_known (force - n) e in
-          let past : n + seconds_known ≤ force = omega (arith, back, far) in
-          sym (le-leb (n + seconds_known) force past)
-      | false ↦ λ e.
-          let near : force - n < seconds_known = leb-false seconds_known (force - n) e in
+          let near : force - n < seconds_known = leb-true (suc (force - n)) seconds_known e in
           let later : force < n + seconds_known = omega (arith, back, near) in
           let out : nat_le (n + seconds_known) force ≡ false = grind (arith, nat_tests) in sym out
+      | false ↦ λ e.
+          let far : seconds_known < suc (force - n) =
+          leb-false (suc (force - n)) seconds_known e in
+          let past : n + seconds_known ≤ force = omega (arith, back, far) in
+          sym (le-leb (n + seconds_known) force past)
     ] refl
 
 -- a line acts that the receivers take
 pub taken-acts : (first : StartMoments) (moments : List ℕ) (line : Line)
     → MayAct (in_force first.newest moments) [] line → IsEffect first moments (Some line) Acts
 taken-acts first moments (moment n) h = (
-  both _ _ (le-leb n last_moment h.1) (le-leb (in_force first.newest moments) n h.0),
-  not_first _ _ (not_second _ _ (taken-near first.newest moments n h.0)),
+  and_from _ _ (le-leb n last_moment h.1) (le-leb (in_force first.newest moments) n h.0),
+  and_left _ _ (and_right _ _ (taken-near first.newest moments n h.0)),
 )
 taken-acts first moments (elements mark bits) h = (refl, refl)
 taken-acts first moments (refuse_station mark letter) h = (refl, refl)
@@ -151,8 +138,8 @@ pub past-idle : (first : StartMoments) (moments : List ℕ) (n : ℕ) → last_m
     → IsEffect first moments (Some (moment n)) (Nothing PastLast)
 past-idle first moments n past =
     let out : nat_le n last_moment ≡ false = grind (arith, nat_tests) in (
-      not_first _ _ out,
-      not_first _ _ (not_first _ _ out),
+      and_left _ _ out,
+      and_left _ _ (and_left _ _ out),
       λ bytes before. past,
     )
 
@@ -160,7 +147,7 @@ pub back-idle : (first : ℕ) (moments : List ℕ) (n : ℕ) → n < in_force fi
     → acts first moments (Some (moment n)) ≡ false
 back-idle first moments n back =
     let early : nat_le (in_force first moments) n ≡ false = grind (arith, nat_tests) in
-    not_second _ _ early
+    and_right _ _ early
 
 pub past-keeps : (first : StartMoments) (moments : List ℕ) (n : ℕ) (kept : LineEffects)
     → last_moment < n → KeepsMoments first moments kept
@@ -174,7 +161,7 @@ refused-idle : (first : ℕ) (moments : List ℕ) (n : ℕ) (fault : MomentFault
     → Refuses (in_force first moments) n fault → acts first moments (Some (moment n)) ≡ false
 refused-idle first moments n (Range at) h =
     let past : last_moment < n = h.1 in
-    let out : nat_le n last_moment ≡ false = grind (arith, nat_tests) in not_first _ _ out
+    let out : nat_le n last_moment ≡ false = grind (arith, nat_tests) in and_left _ _ out
 refused-idle first moments n (Back from at) h = back-idle first moments n h.3
 
 -- a line acts where the receivers take it, and else not

@@ -19,14 +19,6 @@ use Rattle.nx_watch.proofs.lemmas.lines.Scanning.{Parts-lines, parts}
 use Rattle.nx_watch.specs.declared.lines.any_lines.AnyLine.TheVariants.{Known}
 
 -- a line that says so says so
-pub kind-with : (said : LineKind) (bits : List Bool) → kind_of (line_with said bits) ≡ said
-kind-with (kind.Moment n) bits = refl
-kind-with (kind.Elements mark) bits = refl
-kind-with (kind.RefuseStation mark letter) bits = refl
-kind-with (kind.AcceptStation mark letter) bits = refl
-kind-with (kind.RefuseSubject mark letter) bits = refl
-kind-with (kind.AcceptSubject mark letter) bits = refl
-
 -- it is a line of an air file
 pub said-good : (latest : Option Line) (said : LineKind) (bits : List Bool)
     → SaysLine latest (Known said) → bits ≡ elements_kept latest → IsLine (line_with said bits)

@@ -5,7 +5,7 @@ use Rattle.std.proofs.Common.{option_to_list, nat_le, refl, sym, ap, ◌∙◌, 
 use Rattle.std.proofs.Common.{append-nil, arith, Err, inl, ap₂}
 use Rattle.std.specs.Prelude.{MatchResult}
 use Rattle.std.specs.Io.KnownBytes.{Appends}
-use Rattle.std.proofs.lemmas.Bool.{and_parts, le-leb, leb-false, leb-true}
+use Rattle.std.proofs.lemmas.Bool.{and_from, and_parts, and_right, le-leb, leb-false, leb-true}
 use Rattle.std.proofs.lemmas.Bool.Decides.{nat_tests}
 use Rattle.std.proofs.lemmas.List.{map-append, take-append-drop}
 use Rattle.std.proofs.lemmas.List.Concat.{flat_map-append}
@@ -43,7 +43,7 @@ use Rattle.nx_watch.specs.declared.line_run.LineRun.{LineRun}
 use Rattle.nx_watch.specs.private.Running.{EndsInput, HasToldLines, IsRunning, TellsFirst, ToldBefore, ToldBeside, beside}
 use Rattle.nx_watch.specs.private.Scanning.{IsScanning}
 use Rattle.nx_watch.specs.private.LoggingListener.{KeepsLines, LoggingOver, TakesLines, logging_to}
-use Rattle.nx_watch.proofs.lemmas.lines.Acting.{both, idle-unset, not_second}
+use Rattle.nx_watch.proofs.lemmas.lines.Acting.{idle-unset}
 use Rattle.nx_watch.proofs.lemmas.lines.Starting.{is-setting, set-before, set_line, unset-behind}
 
 -- ---- one more line
@@ -53,11 +53,12 @@ goes_on-append : (first : ℕ) (moments : List ℕ) (lines : List (Option Line))
     → ends_watch first (moments ++ moments_said lines) line ≡ false
     → goes_on_behind first moments (lines ++ line ∷ []) ≡ true
 goes_on-append first moments [] line on stays =
-    both _ _ (ap not (ap (λ m. ends_watch first m line) (sym (append-nil moments)) ∙ stays)) refl
+    and_from _ _ (ap not (ap (λ m. ends_watch first m line) (sym (append-nil moments)) ∙ stays))
+    refl
 goes_on-append first moments (l ∷ lines) line on stays =
     let parts = and_parts (not (ends_watch first moments l))
     (goes_on_behind first (moments ++ moment_said l) lines) on in
-    both _ _ parts.0 (goes_on-append first (moments ++ moment_said l) lines line parts.1
+    and_from _ _ parts.0 (goes_on-append first (moments ++ moment_said l) lines line parts.1
     (ap (λ m. ends_watch first m line) (append_assoc moments (moment_said l) (moments_said lines))
     ∙ stays))
 
@@ -130,7 +131,7 @@ set-acts first lines line h =
     let s = is-setting first (moments_behind first lines) line h in
     let low : first.newest ≤ given first = omega arith in
     ap (λ m. acts first.newest m (set_line first)) s.first
-    ∙ both _ _ s.in_range (le-leb first.newest (given first) low)
+    ∙ and_from _ _ s.in_range (le-leb first.newest (given first) low)
 
 -- one more line, before which it is set
 acting-set : (first : StartMoments) (lines : List (Option Line)) (line : Line)
@@ -158,7 +159,7 @@ on-set first lines line h on =
     let whole = with_start first lines in
     let s = is-setting first (moments_behind first lines) line h in
     let quiet : ends_watch first.newest (moments_behind first lines) (set_line first) ≡ false =
-    ap (λ m. ends_watch first.newest m (set_line first)) s.first ∙ not_second _ _ refl in
+    ap (λ m. ends_watch first.newest m (set_line first)) s.first ∙ and_right _ _ refl in
     let stays : ends_watch first.newest (moments_said (whole ++ set_line first ∷ [])) line ≡ false =
     ap (ends_watch first.newest (moments_said (whole ++ set_line first ∷ []))) s.is in
     ap (goes_on_behind first.newest []) (set-before first lines line h

@@ -32,6 +32,7 @@ use Rattle.nx_copies.specs.copies.Log.{IsEntry, IsLog, IsUpTo}
 use Rattle.nx_copies.specs.copies.Shares.{Given, MarkedCopy, Starts, events_for, marked, share, to_one}
 use Rattle.nx_receiver.specs.declared.fault.MomentFault.{MomentFault}
 use Rattle.nx_receiver.proofs.lemmas.listening.Listener.{given_by-one, in_force-append as given-append, none-given}
+use Rattle.nx_receiver.proofs.lemmas.listening.Moments.{elements-in_range, one-in_range}
 use Rattle.nx_watch.proofs.lemmas.lines.Acting.{said-in}
 use Rattle.nx_watch.proofs.lemmas.lines.Run.{in_force-append}
 use Rattle.nx_watch.proofs.lemmas.lines.Starting.{moments_said-more}
@@ -52,36 +53,28 @@ with_listener logging listener = record logging { listener = listener }
 abbrev IsInRange : Event → Type 0
 IsInRange = IsUpTo last_moment
 
-elements_are : (bits : List Bool) → All IsInRange (fed.elements bits)
-elements_are [] = All-nil IsInRange
-elements_are (bit ∷ bits) =
-    All-cons IsInRange (fed.element bit) (fed.elements bits) tt (elements_are bits)
-
 share_is : (b : Bool) (events : List Event) → All IsInRange events
     → All IsInRange (cond b events [])
 share_is true events h = h
 share_is false events h = All-nil IsInRange
 
-one_is : (event : Event) → IsInRange event → All IsInRange (event ∷ [])
-one_is event h = All-cons IsInRange event [] h (All-nil IsInRange)
-
 line_is : (channel : Channel) (line : Line) → IsLineInRange line
     → All IsInRange (events_for channel (given_of line))
-line_is channel (moment n) h = one_is (at_moment n) h
+line_is channel (moment n) h = one-in_range (at_moment n) h
 line_is channel (elements mark bits) h =
-    share_is (same_channel (channel_of mark) channel) _ (elements_are bits)
+    share_is (same_channel (channel_of mark) channel) _ (elements-in_range bits)
 line_is channel (refuse_station mark letter) h =
     share_is (same_channel (channel_of mark) channel) _
-    (one_is (command (fed.refuse_station letter)) tt)
+    (one-in_range (command (fed.refuse_station letter)) tt)
 line_is channel (accept_station mark letter) h =
     share_is (same_channel (channel_of mark) channel) _
-    (one_is (command (fed.accept_station letter)) tt)
+    (one-in_range (command (fed.accept_station letter)) tt)
 line_is channel (refuse_subject mark letter) h =
     share_is (same_channel (channel_of mark) channel) _
-    (one_is (command (fed.refuse_subject letter)) tt)
+    (one-in_range (command (fed.refuse_subject letter)) tt)
 line_is channel (accept_subject mark letter) h =
     share_is (same_channel (channel_of mark) channel) _
-    (one_is (command (fed.accept_subject letter)) tt)
+    (one-in_range (command (fed.accept_subject letter)) tt)
 
 pub lines_are : (lines : List Line) → All IsLineInRange lines → AreInRange (given_by lines)
 lines_are [] h channel = All-nil IsInRange
@@ -97,7 +90,7 @@ part_are given channel bits h on =
     subst (All IsInRange) (sym (flat_map-append (events_for on) given (last ∷ [])))
     (All-append IsInRange (share on given) (share on (last ∷ [])) (h on)
     (All-append IsInRange (events_for on last) []
-    (share_is (same_channel channel on) _ (elements_are bits)) (All-nil IsInRange)))
+    (share_is (same_channel channel on) _ (elements-in_range bits)) (All-nil IsInRange)))
 
 -- ---- the moment in force
 

@@ -4,7 +4,7 @@ use Rattle.std.proofs.Common.{[], ◌∷◌, ◌++◌, length, drop, get_or, ref
 use Rattle.std.proofs.Common.{append_assoc, arith, nat_le, nat_lt, ◌&&◌}
 use Rattle.std.specs.Prelude.{filter}
 use Rattle.std.specs.List.{All, list_any}
-use Rattle.std.proofs.lemmas.Bool.{and_parts, leb-true, ltb-false, or_parts}
+use Rattle.std.proofs.lemmas.Bool.{and_parts, leb-true, ltb-false, not-true, or_parts}
 use Rattle.std.proofs.lemmas.List.{drop_more}
 use Rattle.std.proofs.lemmas.List.Elements.{All-append, All-cons, All-filter, All-head, All-nil}
 use Rattle.std.proofs.lemmas.List.Elements.{All-tail}
@@ -45,7 +45,7 @@ All-passing P test (entry ∷ behind) h =
     ])
     (All-passing P test behind (All-tail P entry behind h))
 
-length-passing : (test : MemoryEntry → List MemoryEntry → Bool) (entries : List MemoryEntry)
+pub length-passing : (test : MemoryEntry → List MemoryEntry → Bool) (entries : List MemoryEntry)
     → length (passing test entries) ≤ length entries
 length-passing test [] = omega arith
 length-passing test (entry ∷ behind) =
@@ -104,10 +104,6 @@ all-later entry (next ∷ behind) order none =
     (All-head (λ (other : MemoryEntry). entry.moment ≤ other.moment) next behind order) parts.0)
     (all-later entry behind
     (All-tail (λ (other : MemoryEntry). entry.moment ≤ other.moment) next behind order) parts.1)
-
-not-true : (b : Bool) → not b ≡ true → b ≡ false
-not-true true h = cc
-not-true false h = refl
 
 turn-passing : (entries : List MemoryEntry) → InOrder entries
     → AreInTurn (passing is_last_known entries)

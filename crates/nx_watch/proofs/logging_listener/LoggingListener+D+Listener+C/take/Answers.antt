@@ -8,7 +8,7 @@ use Rattle.nx_receiver.specs.Listener.{starts_by}
 use Rattle.nx_receiver.proofs.lemmas.listening.Lines.{kind-gives}
 use Rattle.nx_watch.specs.LineRun.{MayAct, force_behind}
 use Rattle.nx_watch.specs.private.LoggingListener.{TakesLines, logging_to}
-use Rattle.nx_watch.proofs.lemmas.lines.AnyLines.{kind-with}
+use Rattle.nx_receiver.proofs.lemmas.listening.Lines.{kind-with}
 use Rattle.nx_watch.proofs.lemmas.log.LoggingListener.{next-command, spared, with_listener}
 use Rattle.nx_watch.specs.declared.logging_listener.LoggingListener.{LoggingListener}
 use Rattle.nx_watch.proofs.logging_listener.LoggingListener+D+Listener+C.take.Goals as goal

@@ -1,13 +1,11 @@
-use Rattle.std.proofs.Common.{◌≡◌, ◌∙◌, ◌++◌, Some, true, ap, nat_le, subst, sym}
-use Rattle.std.proofs.lemmas.Bool.{le-leb}
+use Rattle.std.proofs.Common.{◌≡◌, ◌∙◌, ◌++◌, Some, true, ap, not, subst, sym}
+use Rattle.std.proofs.lemmas.Bool.{and_from, and_left, and_right, le-leb}
 use Rattle.nx_envelope.specs.Moment.{last_moment}
 use Rattle.nx_fec.specs.air_files.AirFile.{moment}
-use Rattle.nx_memory.specs.Memory.{seconds_known}
 use Rattle.nx_receiver.specs.Moments.{Refuses}
 use Rattle.nx_watch.specs.Acting.{in_force, is_far_back}
 use Rattle.nx_watch.specs.private.Effects.{KeepsMoments}
-use Rattle.nx_watch.proofs.lemmas.lines.Acting.{back-idle, both, far-same, not_first, not_second}
-use Rattle.nx_watch.proofs.lemmas.lines.Acting.{near-leb, past-idle, past-keeps, said-in}
+use Rattle.nx_watch.proofs.lemmas.lines.Acting.{back-idle, far-same, past-idle, past-keeps, said-in}
 use Rattle.nx_watch.proofs.lines.line_effects.LineEffects.effect_of_fault.Goals as goal
 use Rattle.nx_watch.proofs.lines.line_effects.LineEffects.effect_of_fault.Goals.{else-is_far_back-via-then-is_far_back+else-went_far_back, else-is_far_back-via-else-is_far_back}
 
@@ -19,18 +17,17 @@ returns-in-Range-clause-kept c = λ first moments n refused k.
 pub returns-then-went_far_back-clause-kept : goal.returns-then-went_far_back-clause-kept
 returns-then-went_far_back-clause-kept c = λ first moments n refused k.
     let why = subst (Refuses (in_force first.newest moments) n) c.in-Back.is refused in
-    let is_far : nat_le seconds_known c.saturating_sub-is_far_back.result
-    ≡ is_far_back first.newest moments n =
-    ap (nat_le seconds_known) c.saturating_sub-is_far_back.ensures
+    let is_far : not c.is_recent-is_far_back.result ≡ is_far_back first.newest moments n =
+    ap not c.is_recent-is_far_back.ensures
     ∙ far-same c.in-Back.last c.in-Back.given (in_force first.newest moments) n why.0 why.1 why.3 in
     let far : is_far_back first.newest moments n ≡ true =
-    sym is_far ∙ le-leb seconds_known c.saturating_sub-is_far_back.result c.if-is_far_back.true in (
+    sym is_far ∙ ap not c.if-is_far_back.true in (
       subst (λ l. KeepsMoments first (moments ++ l) c.keep_moment-went_far_back.new.self)
           (sym (said-in n why.2))
           (c.keep_moment-went_far_back.ensures.kept first moments n is_far k),
       (
         back-idle first.newest moments n why.3,
-        both _ _ (both _ _ (le-leb n last_moment why.2) far)
+        and_from _ _ (and_from _ _ (le-leb n last_moment why.2) far)
             (sym k.far_back ∙ sym c.keep_moment-went_far_back.ensures.far
             ∙ c.if-went_far_back.true),
         why.0,
@@ -41,9 +38,8 @@ returns-then-went_far_back-clause-kept c = λ first moments n refused k.
 pub returns-else-is_far_back-clause-kept : goal.returns-else-is_far_back-clause-kept
 returns-else-is_far_back-clause-kept c = λ first moments n refused k.
     let why = subst (Refuses (in_force first.newest moments) n) c.in-Back.is refused in
-    let is_far : nat_le seconds_known c.saturating_sub-is_far_back.result
-    ≡ is_far_back first.newest moments n =
-    ap (nat_le seconds_known) c.saturating_sub-is_far_back.ensures
+    let is_far : not c.is_recent-is_far_back.result ≡ is_far_back first.newest moments n =
+    ap not c.is_recent-is_far_back.ensures
     ∙ far-same c.in-Back.last c.in-Back.given (in_force first.newest moments) n why.0 why.1 why.3 in (
       subst (λ l. KeepsMoments first (moments ++ l) c.keep_moment-went_far_back.new.self)
           (sym (said-in n why.2))
@@ -52,10 +48,10 @@ returns-else-is_far_back-clause-kept c = λ first moments n refused k.
         back-idle first.newest moments n why.3,
         elim c.else-is_far_back.branch [
           | else-is_far_back-via-then-is_far_back+else-went_far_back w ↦
-              not_second _ _ (sym k.far_back ∙ sym c.keep_moment-went_far_back.ensures.far
+              and_right _ _ (sym k.far_back ∙ sym c.keep_moment-went_far_back.ensures.far
               ∙ w.if-went_far_back.false)
           | else-is_far_back-via-else-is_far_back w ↦
-              not_first _ _ (not_second _ _ (sym is_far ∙ near-leb _ w.if-is_far_back.false))
+              and_left _ _ (and_right _ _ (sym is_far ∙ ap not w.if-is_far_back.false))
         ],
         λ bytes before. why.2,
       ),
