@@ -22,6 +22,7 @@ ghost use Rattle.nx_combine.specs.Judging.{Judged, StandsCombined};
 ghost use Rattle.nx_combine.specs.Notes.{noted};
 
 use crate::combiner::Combiner;
+use crate::families::Families;
 use crate::taker::CombinedTaker;
 use nx_copies::{CopyTag, Entry, EntryHead, Over, hear_elements};
 use nx_envelope::{LAST_MOMENT, MAX_FOUND};
@@ -41,7 +42,7 @@ use std::marker::Model;
 pub struct CombinedReceiver<M: Renewing> {
     synchroniser: Synchroniser,
     taker: CombinedTaker,
-    combiner: Combiner,
+    combiner: Combiner<Families>,
     is_given: bool,
     memory: M,
 }
@@ -52,6 +53,7 @@ impl<M: Renewing> Model for CombinedReceiver<M> {
     ghost use Rattle.nx_memory.specs.Memory.{newest_moment};
     ghost use Rattle.nx_receiver.specs.private.Awaiting.{IsInOrder};
     ghost use Rattle.nx_combine.specs.CombinedReceiver.{CombiningReceiver};
+    ghost use Rattle.nx_combine.specs.Judging.{combiner_of};
 
     ghost Value = { CombiningReceiver M };
 
@@ -60,7 +62,7 @@ impl<M: Renewing> Model for CombinedReceiver<M> {
     ghost view = { λ r. record {
       synchroniser = r.synchroniser;
       taker = r.taker;
-      combiner = r.combiner;
+      combiner = combiner_of r.combiner.store r.combiner.finder;
       is_given = r.is_given;
       memory = r.memory;
     } };
@@ -71,7 +73,10 @@ impl<M: Renewing> Model for CombinedReceiver<M> {
     ghost inverse = { λ v. record {
       synchroniser = v.synchroniser;
       taker = v.taker;
-      combiner = v.combiner;
+      combiner = record {
+        store = record { families = v.combiner.families; printed = v.combiner.printed };
+        finder = v.combiner.finder;
+      };
       is_given = v.is_given;
       memory = v.memory;
     } };
@@ -249,6 +254,7 @@ impl<M: Renewing> CombinedReceiver<M> {
         };
         let positions = self.taker.notes.positions();
         let printed = self.combiner.judge(
+            &mut [],
             &head,
             finder.text(),
             is_selected,

@@ -3,6 +3,7 @@ use Rattle.nx_copies.specs.copies.FoundCopies.{copy_of, headed_copy}
 use Rattle.nx_receiver.specs.Receiver.{entry_list, headed_list}
 use Rattle.nx_combine.specs.CombinedReceiver.{CombiningReceiver, StandsAfterAll, text_in}
 use Rattle.nx_combine.proofs.lemmas.TogetherFinish.{all_done}
+use Rattle.nx_combine.specs.Judging.{combiner_of}
 use Rattle.nx_combine.proofs.receiver.CombinedReceiver.close.Goals as goal
 
 pub returns-in_err-head-clause-stands : goal.returns-in_err-head-clause-stands
@@ -12,7 +13,7 @@ returns-in_err-head-clause-stands g c start history log stands =
     let old : CombiningReceiver _ = record {
       synchroniser = i.synchroniser;
       taker = i.taker;
-      combiner = i.combiner;
+      combiner = combiner_of i.combiner.store i.combiner.finder;
       is_given = i.is_given;
       memory = i.memory;
     } in
@@ -39,7 +40,7 @@ returns-clause-stands g c start history log stands =
     let old : CombiningReceiver _ = record {
       synchroniser = i.synchroniser;
       taker = i.taker;
-      combiner = i.combiner;
+      combiner = combiner_of i.combiner.store i.combiner.finder;
       is_given = i.is_given;
       memory = i.memory;
     } in

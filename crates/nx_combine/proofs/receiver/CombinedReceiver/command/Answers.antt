@@ -11,6 +11,7 @@ use Rattle.nx_receiver.proofs.lemmas.receiver.Events.{a_command}
 use Rattle.nx_combine.specs.CombinedReceiver.{CombiningReceiver, StandsAfterAll}
 use Rattle.nx_combine.specs.declared.receiver.CombinedReceiver.TheInside.{Inside}
 use Rattle.nx_combine.proofs.lemmas.TogetherEvents.{together_after}
+use Rattle.nx_combine.specs.Judging.{combiner_of}
 use Rattle.nx_combine.proofs.receiver.CombinedReceiver.command.Goals as goal
 use Rattle.nx_combine.proofs.receiver.CombinedReceiver.command.Goals.{in-RefuseStation}
 use Rattle.nx_combine.proofs.receiver.CombinedReceiver.command.Goals.{in-AcceptStation}
@@ -23,7 +24,7 @@ returns-clause-stands g c start history log stands =
     let old : CombiningReceiver _ = record {
       synchroniser = before.synchroniser;
       taker = before.taker;
-      combiner = before.combiner;
+      combiner = combiner_of before.combiner.store before.combiner.finder;
       is_given = before.is_given;
       memory = before.memory;
     } in
@@ -51,7 +52,7 @@ returns-clause-stands g c start history log stands =
     subst (λ (i : Inside g.row.M.Denot). StandsAfterAll content start (record {
       synchroniser = i.synchroniser;
       taker = i.taker;
-      combiner = i.combiner;
+      combiner = combiner_of i.combiner.store i.combiner.finder;
       is_given = i.is_given;
       memory = i.memory;
     }) (history ++ event ∷ []) log) (sym change)
@@ -65,7 +66,7 @@ returns-in-RefuseSubject-clause-stands g c =
     let old : CombiningReceiver _ = record {
       synchroniser = before.synchroniser;
       taker = before.taker;
-      combiner = before.combiner;
+      combiner = combiner_of before.combiner.store before.combiner.finder;
       is_given = before.is_given;
       memory = before.memory;
     } in

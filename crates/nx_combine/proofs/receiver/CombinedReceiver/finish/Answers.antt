@@ -4,6 +4,7 @@ use Rattle.nx_copies.specs.declared.copy_taker.Over.TheVariants as over
 use Rattle.nx_combine.specs.CombinedReceiver.{AwaitsAfterAll, CombiningReceiver}
 use Rattle.nx_combine.specs.declared.taker.CombinedTaker.{CombinedTaker}
 use Rattle.nx_combine.proofs.lemmas.TogetherFinish.{IsJudgedReady, both_done, copy_done, lock_done}
+use Rattle.nx_combine.specs.Judging.{combiner_of}
 use Rattle.nx_combine.proofs.receiver.CombinedReceiver.finish.Goals as goal
 
 abbrev in_force_of : CombinedTaker → Setting
@@ -32,7 +33,7 @@ returns-in-Lock-clause-stands g c start history log awaits =
     let old : CombiningReceiver _ = record {
       synchroniser = i.synchroniser;
       taker = i.taker;
-      combiner = i.combiner;
+      combiner = combiner_of i.combiner.store i.combiner.finder;
       is_given = i.is_given;
       memory = i.memory;
     } in
@@ -60,7 +61,7 @@ returns-in-CopyAndLock-clause-stands g c start history log awaits =
     let new : CombiningReceiver _ = record {
       synchroniser = i.synchroniser;
       taker = i.taker;
-      combiner = i.combiner;
+      combiner = combiner_of i.combiner.store i.combiner.finder;
       is_given = i.is_given;
       memory = i.memory;
     } in

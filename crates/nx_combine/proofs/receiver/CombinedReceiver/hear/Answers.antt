@@ -1,6 +1,7 @@
 use Rattle.std.proofs.Common.{◌-◌, arith}
 use Rattle.nx_combine.specs.CombinedReceiver.{CombiningReceiver}
 use Rattle.nx_combine.proofs.lemmas.TogetherHears.{none_before_together, part_together}
+use Rattle.nx_combine.specs.Judging.{combiner_of}
 use Rattle.nx_combine.proofs.receiver.CombinedReceiver.hear.Goals as goal
 
 pub returns-clause-stands : goal.returns-clause-stands
@@ -10,7 +11,7 @@ returns-clause-stands g c =
     let old : CombiningReceiver _ = record {
       synchroniser = i.synchroniser;
       taker = i.taker;
-      combiner = i.combiner;
+      combiner = combiner_of i.combiner.store i.combiner.finder;
       is_given = i.is_given;
       memory = i.memory;
     } in
@@ -27,7 +28,7 @@ returns-clause-first g c =
     let old : CombiningReceiver _ = record {
       synchroniser = i.synchroniser;
       taker = i.taker;
-      combiner = i.combiner;
+      combiner = combiner_of i.combiner.store i.combiner.finder;
       is_given = i.is_given;
       memory = i.memory;
     } in

@@ -3,6 +3,7 @@ use Rattle.nx_copies.specs.Events.{first_setting}
 use Rattle.nx_copies.specs.hearing.CopyHearing.{in_force}
 use Rattle.nx_combine.specs.CombinedReceiver.{CombiningReceiver, hearer_in}
 use Rattle.nx_combine.proofs.lemmas.JudgedOn.{begins_together}
+use Rattle.nx_combine.specs.Judging.{combiner_of}
 use Rattle.nx_combine.proofs.receiver.CombinedReceiver.starting.Goals as goal
 
 pub returns-clause-stands : goal.returns-clause-stands
@@ -11,7 +12,7 @@ returns-clause-stands g c start entries moment selection =
     let receiver : CombiningReceiver _ = record {
       synchroniser = c.hunting.result;
       taker = taker.result;
-      combiner = c.in-Ok.combiner;
+      combiner = combiner_of c.in-Ok.combiner.store c.in-Ok.combiner.finder;
       is_given = false;
       memory = c.args.memory;
     } in
