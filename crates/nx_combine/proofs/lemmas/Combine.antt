@@ -176,9 +176,10 @@ pub joined_at-there : (held : List Family) (heard : HeardCopy) (index : ℕ) (fa
     → slice_get held index ≡ Some family
     → slice_get (joined_at held heard index) index ≡ Some (joined_by heard family)
 joined_at-there held heard index family there =
+    let within = slice_get_within held index family there in
     ap (λ o. slice_get (option_map_or (λ (f : Family). set held index (joined_by heard f)) o held)
     index) there
-    ∙ slice_get-set_same held index (joined_by heard family) (slice_get_within held index family there)
+    ∙ slice_get-set_same held index (joined_by heard family) within
 
 -- a copy of this head and these positions
 abbrev pub heard_with : EntryHead → List Reception → HeardCopy
