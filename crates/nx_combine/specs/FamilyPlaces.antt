@@ -1,5 +1,5 @@
 -- Families in room that a caller lends, and what tells where in it they lie (this profile).
-use Rattle.std.specs.Prelude.{ℕ, ◌-◌, ◌≤◌, ◌<◌, List, ◌++◌, drop, length, map, take, Option}
+use Rattle.std.specs.Prelude.{ℕ, ◌≤◌, ◌<◌, List, ◌++◌, drop, length, map, take, Option}
 use Rattle.nx_copies.specs.declared.entry.EntryHead.{EntryHead}
 use Rattle.nx_combine.specs.Families.{Family}
 use Rattle.nx_combine.specs.Judging.{HeldFamilies}
@@ -12,7 +12,7 @@ pub record LentFamily : Type 0 where
   pub printed : Option EntryHead
 
 -- Of so many of the places that are taken, what lies there, newest first: the newest at the first
--- one, and each older one behind it. Behind the last place comes the one with which the room begins.
+-- one, and each older one behind it. Behind the last place comes that with which the room begins.
 abbrev pub newest_first : {P : Type 0} → ℕ → ℕ → List P → List P
 newest_first first taken places = take taken (drop first places ++ take first places)
 

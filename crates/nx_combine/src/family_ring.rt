@@ -10,9 +10,9 @@ use crate::position::Position;
 use nx_copies::EntryHead;
 use nx_envelope::Identity;
 
-/// Where the families of a channel lie in the places that are lent: which one is that of the newest,
-/// and how many are taken. Those of older ones lie behind it, and go on with the first place. As
-/// many families are held as there are places.
+/// Where the families of a channel lie in the places that are lent: which place is that of the
+/// newest, and how many are taken. Older ones lie behind it, and behind the last place they go on
+/// with the first one. As many families are held as there are places.
 #[derive(Debug, Drop)]
 pub struct FamilyRing {
     first: usize,

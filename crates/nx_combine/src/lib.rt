@@ -16,6 +16,7 @@ mod plain_head;
 mod position;
 mod reading;
 mod receiver;
+mod receiver_over;
 mod taker;
 
 pub use combiner::{Combiner, PrintedCopy};
@@ -30,4 +31,5 @@ pub use notes::{MAX_NOTED, PositionNotes};
 pub use position::Position;
 pub use reading::read_positions;
 pub use receiver::CombinedReceiver;
+pub use receiver_over::{LentReceiver, ReceiverOver};
 pub use taker::CombinedTaker;

@@ -1,7 +1,7 @@
 -- What lies in a ring of places, newest first, where one of them is written.
 use Rattle.std.proofs.Common.{◌≡◌, ℕ, zero, suc, ◌+◌, ◌-◌, ◌<◌, ◌≤◌, min, Bool, true, false, cond}
 use Rattle.std.proofs.Common.{List, [], ◌∷◌, ◌++◌, Some, length, map, take, drop, nat_lt, refl, sym}
-use Rattle.std.proofs.Common.{ap, ap₂, ◌∙◌, arith, append-nil, not, None, Option}
+use Rattle.std.proofs.Common.{ap, ap₂, ◌∙◌, arith, append-nil, not, None}
 use Rattle.std.proofs.Math.ListN.{set}
 use Rattle.std.proofs.Math.Seq.{take-append-add, take-set-lt}
 use Rattle.std.proofs.lemmas.Bool.{cases_lt, le-ltb, lt-ltb, ltb-false, ltb-true, ne_eqb}
@@ -60,7 +60,8 @@ at_if first index xs false within below is =
 -- what lies at an index
 pub newest_at : {X : Type 0} (first taken index : ℕ) (xs : List X) → first < length xs
     → taken ≤ length xs → index < taken
-    → slice_get (newest_first first taken xs) index ≡ slice_get xs (place_at first index (length xs))
+    → slice_get (newest_first first taken xs) index
+    ≡ slice_get xs (place_at first index (length xs))
 newest_at first taken index xs within few below =
     slice_get-take taken (round first xs) index below
     ∙ at_if first index xs (nat_lt index (length xs - first)) within (omega arith) refl

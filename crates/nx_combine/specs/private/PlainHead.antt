@@ -1,5 +1,5 @@
 -- How an identity, and the head of an entry, lie in plain numbers, whichever stand there.
-use Rattle.std.specs.Prelude.{◌≡◌, ℕ, ◌==◌, min, if◌then◌else◌, Option, None, Some, refl}
+use Rattle.std.specs.Prelude.{ℕ, ◌==◌, min, if◌then◌else◌, Option, None, Some}
 use Rattle.std.proofs.Math.Nat.{min-le_left}
 use Rattle.nx_envelope.specs.declared.found.How.{How}
 use Rattle.nx_envelope.specs.declared.found.How.TheVariants.{Cut, Full, Long}

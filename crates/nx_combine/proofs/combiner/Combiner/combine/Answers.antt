@@ -1,8 +1,8 @@
-use Rattle.std.proofs.Common.{◌≡◌, ◌<◌, ℕ, List, length, Option, Some, None, refl, sym, ap, ◌∙◌}
-use Rattle.std.proofs.Common.{subst, arith}
+use Rattle.std.proofs.Common.{◌≡◌, ◌<◌, ℕ, length, Option, Some, None, refl, sym, ap, ◌∙◌}
+use Rattle.std.proofs.Common.{subst}
 use Rattle.circular_buffer.proofs.Places.{slice_get-some}
 use Rattle.nx_combine.specs.Combining.{heard_of}
-use Rattle.nx_combine.specs.Families.{Family, joined_by}
+use Rattle.nx_combine.specs.Families.{joined_by}
 use Rattle.nx_combine.proofs.lemmas.Combine.{answers_begun, answers_joined, answers_none}
 use Rattle.nx_combine.proofs.lemmas.Combine.{joined_at-length}
 use Rattle.nx_combine.proofs.combiner.Combiner.combine.Goals as goal

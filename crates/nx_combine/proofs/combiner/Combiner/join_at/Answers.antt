@@ -1,6 +1,5 @@
 use Rattle.std.proofs.Common.{◌≡◌, ◌<◌, Some, List, length, refl, sym, ap, ◌∙◌, subst}
 use Rattle.std.specs.Prelude.{slice_get}
-use Rattle.nx_combine.specs.CopyPositions.{HeardCopy}
 use Rattle.nx_combine.specs.Families.{Family, joined_by}
 use Rattle.nx_combine.specs.PositionEnds.{HasRead}
 use Rattle.nx_combine.proofs.lemmas.Combine.{heard_with, joined_at-length, joined_at-there}

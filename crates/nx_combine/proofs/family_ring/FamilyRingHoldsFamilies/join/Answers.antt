@@ -11,11 +11,13 @@ returns-clause-joined c = λ heard is.
     let taken = c.args.self.now.taken in
     let index = c.args.index in
     let fits = c.requires.fits in
-    let below = below_taken (λ (p : LentFamily). p.family) first taken index xs fits.first fits.taken c.requires.there in
-    let here = lent_at (λ (p : LentFamily). p.family) first taken index c.place_of-at.result xs c.index-places-at.result
-    fits.first fits.taken below c.place_of-at.ensures.place c.place_of-at.ensures.within c.index-places-at.is in
-    lent_set (λ (p : LentFamily). p.family) first taken index c.place_of-at.result xs c.join.new.self fits.first
-    fits.taken below c.place_of-at.ensures.place
+    let below = below_taken (λ (p : LentFamily). p.family) first taken index xs fits.first
+    fits.taken c.requires.there in
+    let here = lent_at (λ (p : LentFamily). p.family) first taken index c.place_of-at.result xs
+    c.index-places-at.result fits.first fits.taken below
+    c.place_of-at.ensures.place c.place_of-at.ensures.within c.index-places-at.is in
+    lent_set (λ (p : LentFamily). p.family) first taken index c.place_of-at.result xs
+    c.join.new.self fits.first fits.taken below c.place_of-at.ensures.place
     ∙ lent_joined (map (λ (p : LentFamily). p.family) (newest_first first taken xs)) heard index
     c.index-places-at.result.family c.join.new.self.family here (c.join.ensures.joined heard is
     ∙ ap (λ (p : LentFamily). joined_by heard p.family) (sym c.index-places-at.is))
@@ -27,7 +29,8 @@ returns-clause-printed c =
     let taken = c.args.self.now.taken in
     let index = c.args.index in
     let fits = c.requires.fits in
-    let below = below_taken (λ (p : LentFamily). p.family) first taken index xs fits.first fits.taken c.requires.there in
+    let below = below_taken (λ (p : LentFamily). p.family) first taken index xs fits.first
+    fits.taken c.requires.there in
     lent_kept (λ (p : LentFamily). p.printed) first taken index c.place_of-at.result xs
     c.index-places-at.result c.join.new.self fits.first fits.taken below c.place_of-at.ensures.place
     c.place_of-at.ensures.within c.index-places-at.is

@@ -11,7 +11,8 @@ returns-clause-families c =
     let taken = c.args.self.now.taken in
     let index = c.args.index in
     let fits = c.requires.fits in
-    let below = below_taken (λ (p : LentFamily). p.family) first taken index xs fits.first fits.taken c.requires.there in
+    let below = below_taken (λ (p : LentFamily). p.family) first taken index xs fits.first
+    fits.taken c.requires.there in
     lent_kept (λ (p : LentFamily). p.family) first taken index c.place_of-at.result xs
     c.index-places-at.result c.note.new.self fits.first fits.taken below c.place_of-at.ensures.place
     c.place_of-at.ensures.within c.index-places-at.is
@@ -24,7 +25,9 @@ returns-clause-printed c =
     let taken = c.args.self.now.taken in
     let index = c.args.index in
     let fits = c.requires.fits in
-    let below = below_taken (λ (p : LentFamily). p.family) first taken index xs fits.first fits.taken c.requires.there in
-    lent_set (λ (p : LentFamily). p.printed) first taken index c.place_of-at.result xs c.note.new.self fits.first
-    fits.taken below c.place_of-at.ensures.place
-    ∙ ap (set (map (λ (p : LentFamily). p.printed) (newest_first first taken xs)) index) c.note.ensures.printed
+    let below = below_taken (λ (p : LentFamily). p.family) first taken index xs fits.first
+    fits.taken c.requires.there in
+    lent_set (λ (p : LentFamily). p.printed) first taken index c.place_of-at.result xs
+    c.note.new.self fits.first fits.taken below c.place_of-at.ensures.place
+    ∙ ap (set (map (λ (p : LentFamily). p.printed) (newest_first first taken xs)) index)
+    c.note.ensures.printed
