@@ -12,6 +12,7 @@ pub mod JudgedOn
 pub mod Noted
 pub mod Once
 pub mod Printed
+pub mod Ring
 pub mod Sendings
 pub mod Sent
 pub mod Sure

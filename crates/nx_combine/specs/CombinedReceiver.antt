@@ -16,7 +16,9 @@ use Rattle.nx_combine.specs.CombinedHearing.{CombinedOver, CombinedStands}
 use Rattle.nx_combine.specs.CombinedPrinting.{combined_holding, printed_combined}
 use Rattle.nx_combine.specs.CopyPositions.{HeardCopy}
 use Rattle.nx_combine.specs.Families.{combined_copies_holding, most_families}
-use Rattle.nx_combine.specs.Judging.{CombinerView, Judged, StandsHolding, all_copies}
+use Rattle.nx_combine.specs.Judging.{CombinerView, HeldFamilies, Judged, StandsHolding, all_copies}
+use Rattle.nx_combine.specs.Judging.{combiner_of}
+use Rattle.nx_envelope.specs.FinderView.{FinderView}
 use Rattle.nx_combine.specs.Judging.{judged_after_holding, judged_behind_holding, printed_by_holding}
 use Rattle.nx_combine.specs.declared.taker.CombinedTaker.{CombinedTaker}
 
@@ -32,6 +34,42 @@ pub record CombiningReceiver (M : Type 0) : Type 0 where
   pub combiner : CombinerView
   pub is_given : Bool
   pub memory : M
+
+-- what contracts see of such a receiver whose families lie anywhere: in place of what judges, what
+-- holds them, and the finder that reads joined positions
+pub record ReceiverOver (S M : Type 0) : Type 0 where
+  pub synchroniser : Held
+  pub taker : CombinedTaker
+  pub store : S
+  pub finder : FinderView
+  pub is_given : Bool
+  pub memory : M
+
+-- the same with the families that are held, in this room
+abbrev pub receiver_in : {S P M : Type 0} → (S → List P → HeldFamilies) → ReceiverOver S M
+    → List P → CombiningReceiver M
+receiver_in held receiver places = record {
+  synchroniser = receiver.synchroniser;
+  taker = receiver.taker;
+  combiner = combiner_of (held receiver.store places) receiver.finder;
+  is_given = receiver.is_given;
+  memory = receiver.memory;
+}
+
+-- and where what holds them needs no room
+abbrev pub receiver_held : {M : Type 0} → ReceiverOver HeldFamilies M → CombiningReceiver M
+receiver_held receiver = record {
+  synchroniser = receiver.synchroniser;
+  taker = receiver.taker;
+  combiner = combiner_of receiver.store receiver.finder;
+  is_given = receiver.is_given;
+  memory = receiver.memory;
+}
+
+-- the text that it has, in whichever room
+abbrev pub text_over : {S M : Type 0} → ReceiverOver S M → List ℕ
+text_over receiver =
+    if receiver.is_given then receiver.finder.text else receiver.taker.copies.reader.finder.text
 
 -- its hearer of copies
 abbrev pub hearer_in : {M : Type 0} → CombiningReceiver M → CopyHearing

@@ -83,12 +83,26 @@ all_printed_holding held so_far (heard ∷ later) =
 abbrev pub all_printed : Judged → List HeardCopy → List CombinedCopy
 all_printed = all_printed_holding most_families
 
+-- what is held of the families of a channel, wherever they lie: families, newest first, and of each
+-- the head of its last combined copy that was printed, if one was
+pub record HeldFamilies : Type 0 where
+  pub families : List Family
+  pub printed : List (Option EntryHead)
+
 -- what a combiner holds: families, newest first; of each the head of its last combined copy that
 -- was printed, if one was; and the finder that reads joined positions
 pub record CombinerView : Type 0 where
   pub families : List Family
   pub printed : List (Option EntryHead)
   pub finder : FinderView
+
+-- the same of what holds families, and of a finder
+abbrev pub combiner_of : HeldFamilies → FinderView → CombinerView
+combiner_of held finder = record {
+  families = held.families;
+  printed = held.printed;
+  finder = finder;
+}
 
 -- where the combined copy has a family, that is one of the first so many
 abbrev pub IsOfBegun : ℕ → CombinedCopy → Type 0

@@ -6,6 +6,7 @@ pub mod CombinedTakerLaws
 pub mod Combining
 pub mod CopyPositions
 pub mod Families
+pub mod FamilyPlaces
 pub mod Joining
 pub mod Judging
 pub mod Laws

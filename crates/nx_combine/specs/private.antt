@@ -2,5 +2,7 @@
 pub mod CombiningLaws
 pub mod HeldFamilies
 pub mod Kept
+pub mod PlainHead
+pub mod RingPlaces
 pub mod TakerSteps
 pub mod laws

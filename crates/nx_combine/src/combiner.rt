@@ -12,20 +12,18 @@ ghost use Rattle.nx_combine.specs.CombinedPrinting.{entry_made_combined, if_prin
 ghost use Rattle.nx_combine.specs.CombinedPrinting.{is_better_than_before, is_printed_combined};
 ghost use Rattle.nx_combine.specs.Combining.{meant};
 ghost use Rattle.nx_combine.specs.CopyPositions.{HeardCopy};
-ghost use Rattle.nx_combine.specs.Families.{CombinedCopy, Family as OneFamily, combined_copy, families_after};
-ghost use Rattle.nx_combine.specs.Judging.{ComesTo, IsGivenAs, StandsCombined};
+ghost use Rattle.nx_combine.specs.Families.{CombinedCopy, Family as OneFamily, combined_copy_holding, families_after_holding};
+ghost use Rattle.nx_combine.specs.Judging.{ComesTo, IsGivenAs, StandsCombined, StandsHolding, combiner_of};
 ghost use Rattle.nx_combine.specs.Judging.{all_copies, copies_printed, text_printed};
 
 use crate::combining::{Combined, is_better};
-use crate::families::{Families, MAX_FAMILIES};
-use crate::joining::GOOD_SHARE;
+use crate::families::Families;
+use crate::holds_families::HoldsFamilies;
 use crate::position::Position;
-use circular_buffer::HeapCircularBuffer;
-use nx_copies::EntryHead;
+use nx_copies::{EntryHead, is_good_share};
 use nx_envelope::{Finder, How, MAX_FOUND};
 use nx_memory::Renewing;
 use std::alloc::{AllocError, Global};
-use std::marker::Model;
 use std::mem::size_of;
 
 /// A copy that is printed.
@@ -39,97 +37,82 @@ pub struct PrintedCopy {
 }
 
 /// Judges the copies of a channel, each together with those of its family that were heard before.
-///
-/// It holds the last 200 families, of each the head of its last combined copy that was printed, and
-/// the finder that reads joined positions. Its blocks are taken when it is made, and no call takes
-/// memory after that.
 #[derive(Drop)]
-pub struct Combiner {
-    families: Families,
-    printed: HeapCircularBuffer<Option<EntryHead>>,
-    finder: Finder,
+pub struct Combiner<S: HoldsFamilies> {
+    /// Holds the last families, and of each the head of its last combined copy that was printed.
+    pub store: S,
+    /// Reads joined positions.
+    pub finder: Finder,
 }
 
-impl Model for Combiner {
-    ghost use Rattle.std.specs.Prelude.{◌≡◌};
-    ghost use Rattle.std.proofs.Common.{sym, ap};
-    ghost use Rattle.circular_buffer.specs.Buffer.{buffer};
-    ghost use Rattle.nx_combine.specs.Judging.{CombinerView};
-
-    ghost Value = { CombinerView };
-
-    ghost view = { λ all. record {
-      families = all.families;
-      printed = all.printed.items;
-      finder = all.finder;
-    } };
-
-    ghost invariant = { λ all. all.printed.capacity ≡ 200 };
-
-    ghost inverse = { λ held. record {
-      families = held.families;
-      printed = buffer held.printed 200;
-      finder = held.finder;
-    } };
-
-    ghost inverse_ok = { λ all is i. record {
-      families = all.families;
-      printed = buffer all.printed.items (sym is i);
-      finder = all.finder;
-    } };
-}
-
-impl Combiner {
-    /// A combiner that has judged nothing. Fails where memory ran out.
-    pub fn new(alloc: Global) -> Result<Combiner, AllocError>
-        ensures { IfOk result (λ combiner. StandsCombined combiner [] []) }
+impl Combiner<Families> {
+    /// A combiner that has judged nothing, and holds 200 families. Takes all memory that it ever
+    /// needs, and fails where there is none.
+    pub fn new(alloc: Global) -> Result<Combiner<Families>, AllocError>
+        ensures { IfOk result
+            (λ combiner. StandsCombined (combiner_of combiner.store combiner.finder) [] []) }
     {
-        prove!(size_of::<Combiner>() == 4192);
+        prove!(size_of::<Combiner<Families>>() == 4192);
+        let store = Families::new(alloc)?;
         Ok(Combiner {
-            families: Families::new(alloc)?,
-            printed: HeapCircularBuffer::with_capacity(alloc, MAX_FAMILIES)?,
+            store,
             finder: Finder::new(),
         })
     }
+}
 
+impl<S: HoldsFamilies> Combiner<S> {
     /// Judges a copy that was heard: answers whether it is printed, and as what. It is what the
     /// copy comes to together with the others of its family. It is printed where it is selected,
     /// and is numbered 00 or unknown, or better than the last one of its family that was printed.
     /// Where it is printed, good and has a family, it is entered into the memory. Of positions that
     /// are more than 8,192 the first 8,193 suffice. A copy that isn't selected changes nothing.
     ///
-    /// The combiner stands after all copies so far, and the memory holds the last 200 of all the
-    /// entries made so far, whichever they are.
+    /// The head has the errors of the text, and its moment isn't before the newest of the memory.
+    /// The room is that of the families. The combiner stands after all copies so far, and the
+    /// memory holds the last 200 of all the entries made so far, whichever they are.
     pub fn judge<M: Renewing>(
         &mut self,
+        places: &mut [S::Place],
         head: &EntryHead,
         text: &[u8],
         selected: bool,
         positions: &[Position],
         memory: &mut M,
     ) -> Option<PrintedCopy>
+        requires fits { S.fits self.old.store places.old }
         requires newest { newest_moment (M.content memory.old) ≤ head.now.moment }
         requires errors { head.now.errors ≡ errors_of text.now }
+        ensures fits { S.fits self.new.store places.new }
+        ensures room { S.most places.new ≡ S.most places.old }
         ensures stands { (entries : List MemoryEntry) (families : List OneFamily)
             (before : List CombinedCopy) (heard : HeardCopy)
             → IsGivenAs heard (headed_copy head.now text.now selected) positions.now
             → M.content memory.old ≡ last_of most_entries entries
-            → StandsCombined self.old families before
-            → StandsCombined self.new (families_after families heard)
-            (if_printed_combined entries before (combined_copy families heard) ++ before) }
+            → StandsHolding (S.most places.old)
+            (combiner_of (S.held self.old.store places.old) self.old.finder) families before
+            → StandsHolding (S.most places.old)
+            (combiner_of (S.held self.new.store places.new) self.new.finder)
+            (families_after_holding (S.most places.old) families heard)
+            (if_printed_combined entries before
+            (combined_copy_holding (S.most places.old) families heard) ++ before) }
         ensures entered { (entries : List MemoryEntry) (families : List OneFamily)
             (before : List CombinedCopy) (heard : HeardCopy)
             → IsGivenAs heard (headed_copy head.now text.now selected) positions.now
             → M.content memory.old ≡ last_of most_entries entries
-            → StandsCombined self.old families before
+            → StandsHolding (S.most places.old)
+            (combiner_of (S.held self.old.store places.old) self.old.finder) families before
             → M.content memory.new ≡ last_of most_entries
-            (entries ++ entry_made_combined entries before (combined_copy families heard)) }
+            (entries ++ entry_made_combined entries before
+            (combined_copy_holding (S.most places.old) families heard)) }
         ensures printed { (entries : List MemoryEntry) (families : List OneFamily)
             (before : List CombinedCopy) (heard : HeardCopy)
             → IsGivenAs heard (headed_copy head.now text.now selected) positions.now
             → M.content memory.old ≡ last_of most_entries entries
-            → StandsCombined self.old families before
-            → all_copies (if_printed_combined entries before (combined_copy families heard))
+            → StandsHolding (S.most places.old)
+            (combiner_of (S.held self.old.store places.old) self.old.finder) families before
+            → all_copies (if_printed_combined entries before
+            (combined_copy_holding (S.most places.old) families heard))
             ≡ copies_printed result self.new.finder.text text.now selected }
         ensures errors { IfSome result (λ printed. printed.head.errors
             ≡ errors_of (text_printed printed self.new.finder.text text.now)) }
@@ -137,12 +120,12 @@ impl Combiner {
             × (printed.head.moment ≡ head.now.moment)) }
         ensures not_before { newest_moment (M.content memory.new) ≤ head.now.moment }
     {
-        let combined = self.take(head, text, selected, positions);
+        let combined = self.take(places, head, text, selected, positions);
         let one = printed_as(head, &combined);
-        if !self.prints(&one.head, selected, combined.family, memory) {
+        if !self.prints(places, &one.head, selected, combined.family, memory) {
             return None;
         }
-        self.note(combined.family, one.head);
+        self.note(places, combined.family, one.head);
         if is_entered(&one.head, self.text_of(&one, text), combined.family) {
             memory.renew(head.identity, head.moment);
         }
@@ -173,58 +156,68 @@ impl Combiner {
     /// family that it begins.
     fn take(
         &mut self,
+        places: &mut [S::Place],
         head: &EntryHead,
         text: &[u8],
         selected: bool,
         positions: &[Position],
     ) -> Combined
+        requires fits { S.fits self.old.store places.old }
         requires errors { head.now.errors ≡ errors_of text.now }
+        ensures fits { S.fits self.new.store places.new }
+        ensures room { S.most places.new ≡ S.most places.old }
         ensures stands { (families : List OneFamily) (before : List CombinedCopy)
             (heard : HeardCopy)
             → IsGivenAs heard (headed_copy head.now text.now selected) positions.now
-            → StandsCombined self.old families before
-            → StandsCombined self.new (families_after families heard) before }
+            → StandsHolding (S.most places.old)
+            (combiner_of (S.held self.old.store places.old) self.old.finder) families before
+            → StandsHolding (S.most places.old)
+            (combiner_of (S.held self.new.store places.new) self.new.finder)
+            (families_after_holding (S.most places.old) families heard) before }
         ensures comes_to { (families : List OneFamily) (before : List CombinedCopy)
             (heard : HeardCopy)
             → IsGivenAs heard (headed_copy head.now text.now selected) positions.now
-            → StandsCombined self.old families before
-            → ComesTo (combined_copy families heard) (families_after families heard) result.family
+            → StandsHolding (S.most places.old)
+            (combiner_of (S.held self.old.store places.old) self.old.finder) families before
+            → ComesTo (combined_copy_holding (S.most places.old) families heard)
+            (families_after_holding (S.most places.old) families heard) result.family
             (meant result.given self.new.finder.text (headed_copy head.now text.now selected)) }
         ensures errors { IfSome result.given
             (λ given. given.errors ≡ errors_of self.new.finder.text) }
         ensures head { IfSome result.given (λ given. (given.identity ≡ head.now.identity)
             × (given.moment ≡ head.now.moment)) }
-        ensures within { IfSome result.family (λ index. index < length self.new.families) }
+        ensures within { IfSome result.family
+            (λ index. index < length (S.held self.new.store places.new).families) }
         ensures numbered { IfSome result.family (λ index. 0 < head.now.identity.number) }
     {
-        let combined = self
-            .families
-            .combine(head, text, selected, positions, &mut self.finder);
-        if combined.begins {
-            let _forgotten = self.printed.push_front(None);
-        }
-        combined
+        self.combine(places, head, text, selected, positions)
     }
 
     /// Whether a combined copy is printed, by its head, and the index of its family.
     fn prints<M: Renewing>(
         &self,
+        places: &[S::Place],
         head: &EntryHead,
         selected: bool,
         family: Option<usize>,
         memory: &M,
     ) -> bool
+        requires fits { S.fits self.now.store places.now }
         requires newest { newest_moment (M.content memory.now) ≤ head.now.moment }
-        requires within { IfSome family (λ index. index < length self.now.families) }
+        requires within { IfSome family
+            (λ index. index < length (S.held self.now.store places.now).families) }
         ensures { (entries : List MemoryEntry) (families : List OneFamily)
             (before : List CombinedCopy) (one : CombinedCopy) (text : List ℕ)
             → M.content memory.now ≡ last_of most_entries entries
-            → StandsCombined self.now families before → head.now.errors ≡ errors_of text
+            → StandsHolding (S.most places.now)
+            (combiner_of (S.held self.now.store places.now) self.now.finder) families before
+            → head.now.errors ≡ errors_of text
             → ComesTo one families family (headed_copy head.now text selected)
             → result ≡ is_printed_combined entries before one }
     {
         if memory.knows(&head.identity, head.moment) {
-            selected && head.identity.number == 0 || self.is_better_than_before(head, family)
+            selected && head.identity.number == 0
+                || self.is_better_than_before(places, head, family)
         } else {
             selected
         }
@@ -232,10 +225,18 @@ impl Combiner {
 
     /// Whether a combined copy is better than the last one of its family that was printed, by its
     /// head, and the index of its family.
-    fn is_better_than_before(&self, head: &EntryHead, family: Option<usize>) -> bool
-        requires within { IfSome family (λ index. index < length self.now.families) }
+    fn is_better_than_before(
+        &self,
+        places: &[S::Place],
+        head: &EntryHead,
+        family: Option<usize>,
+    ) -> bool
+        requires fits { S.fits self.now.store places.now }
+        requires within { IfSome family
+            (λ index. index < length (S.held self.now.store places.now).families) }
         ensures { (families : List OneFamily) (before : List CombinedCopy) (one : CombinedCopy)
-            (text : List ℕ) (selected : Bool) → StandsCombined self.now families before
+            (text : List ℕ) (selected : Bool) → StandsHolding (S.most places.now)
+            (combiner_of (S.held self.now.store places.now) self.now.finder) families before
             → head.now.errors ≡ errors_of text
             → ComesTo one families family (headed_copy head.now text selected)
             → result ≡ is_better_than_before before one }
@@ -243,31 +244,34 @@ impl Combiner {
         let Some(index) = family else {
             return false;
         };
-        let Some(printed) = self.printed.get(index) else {
-            return false;
-        };
-        match printed {
-            Some(last) => is_better(head, last),
+        match self.store.printed(places, index) {
+            Some(last) => is_better(head, &last),
             None => false,
         }
     }
 
     /// Notes that a combined copy of the family of this index is printed.
-    fn note(&mut self, family: Option<usize>, head: EntryHead)
-        requires within { IfSome family (λ index. index < length self.old.families) }
+    fn note(&mut self, places: &mut [S::Place], family: Option<usize>, head: EntryHead)
+        requires fits { S.fits self.old.store places.old }
+        requires within { IfSome family
+            (λ index. index < length (S.held self.old.store places.old).families) }
         ensures stands { (families : List OneFamily) (before : List CombinedCopy)
             (one : CombinedCopy) (text : List ℕ) (selected : Bool)
-            → StandsCombined self.old families before → head.errors ≡ errors_of text
+            → StandsHolding (S.most places.old)
+            (combiner_of (S.held self.old.store places.old) self.old.finder) families before
+            → head.errors ≡ errors_of text
             → ComesTo one families family (headed_copy head text selected)
-            → StandsCombined self.new families (one ∷ before) }
+            → StandsHolding (S.most places.old)
+            (combiner_of (S.held self.new.store places.new) self.new.finder) families
+            (one ∷ before) }
+        ensures fits { S.fits self.new.store places.new }
+        ensures room { S.most places.new ≡ S.most places.old }
         ensures finder { self.new.finder ≡ self.old.finder }
     {
         let Some(index) = family else {
             return;
         };
-        if let Some(last) = self.printed.get_mut(index) {
-            *last = Some(head);
-        }
+        self.store.note(places, index, head);
     }
 }
 
@@ -302,7 +306,5 @@ fn is_entered(head: &EntryHead, text: &[u8], family: Option<usize>) -> bool
     ensures { (selected : Bool) → head.now.errors ≡ errors_of text.now
         → result ≡ (printing.is_good (headed_copy head.now text.now selected) && is_some family) }
 {
-    head.how == How::Full
-        && GOOD_SHARE * usize::from(head.errors) < text.len().max(1)
-        && family.is_some()
+    head.how == How::Full && is_good_share(usize::from(head.errors), text.len()) && family.is_some()
 }

@@ -5,13 +5,10 @@ ghost use Rattle.nx_combine.specs.Joining as spec;
 
 use crate::position::Position;
 use arrayvec::ArrayVec;
+use nx_copies::is_good_share;
 
 /// The most positions of a copy that is taken together with others (this profile).
 pub const MAX_POSITIONS: usize = 8192;
-
-/// Two lists are of one text where this many times the indices at which they differ is less than
-/// those at which they are the same.
-pub(crate) const GOOD_SHARE: usize = 25;
 
 /// Whether two lists of positions are of one text (this profile; 4 per cent is the share of ITU-R
 /// M.540). As far as both go, 25 times the indices at which they took two combinations are fewer
@@ -21,7 +18,7 @@ pub fn is_of_one_text(first: &[Position], second: &[Position]) -> bool
 {
     let same = count_of_same(first, second);
     let differing = count_of_differing(first, second);
-    GOOD_SHARE.saturating_mul(differing) < same.max(1)
+    is_good_share(differing, same)
 }
 
 /// At how many indices both took the same combination.

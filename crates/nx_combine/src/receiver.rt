@@ -3,77 +3,57 @@
 
 ghost use Rattle.std.specs.Prelude.{◌≡◌, ◌↔◌, ◌+◌, ◌<◌, ◌≤◌, List, [], ◌∷◌, ◌++◌, length, take, drop, IfErr, IfOk, IfSome, IsErr, IsTrue, None, OnErr, OnOk, Some};
 ghost use Rattle.nx_envelope.specs.Moment.{last_moment};
-ghost use Rattle.nx_code.specs.Lists.{last_of};
-ghost use Rattle.nx_memory.specs.Memory.{most_entries, newest_moment};
+ghost use Rattle.nx_memory.specs.Memory.{newest_moment};
 ghost use Rattle.nx_copies.specs.Events as events;
 ghost use Rattle.nx_copies.specs.Events.{Event, Start, at_moment};
 ghost use Rattle.nx_copies.specs.copies.FoundCopies.{TaggedCopy};
-ghost use Rattle.nx_copies.specs.hearing.CopyHearer.{ready_copies};
 ghost use Rattle.nx_receiver.specs.ChannelReceiver.{HandsOutNoneBeforeBy, HearsUpToBy, TakesEventBy};
 ghost use Rattle.nx_receiver.specs.Commands.{refuses_vital, said};
 ghost use Rattle.nx_receiver.specs.declared.command.Command.TheVariants.{RefuseSubject};
 ghost use Rattle.nx_receiver.specs.Moments.{Refuses};
 ghost use Rattle.nx_receiver.specs.Receiver.{HeadsText, RefusesStart, entry_list, headed_list};
 ghost use Rattle.nx_combine.specs.CombinedPrinting.{PrintsCombinedToEnd};
-ghost use Rattle.nx_combine.specs.CombinedReceiver.{AwaitsAfterAll, JudgesNext, StandsAfterAll, combined_kind, hearer_in, text_in};
-ghost use Rattle.nx_combine.specs.CopyPositions.{HeardCopy};
-ghost use Rattle.nx_combine.specs.Families.{most_families};
-ghost use Rattle.nx_combine.specs.Judging.{Judged, StandsCombined};
-ghost use Rattle.nx_combine.specs.Notes.{noted};
+ghost use Rattle.nx_combine.specs.CombinedReceiver.{AwaitsAfterAll, StandsAfterAll, combined_kind, text_in};
 
-use crate::combiner::Combiner;
-use crate::taker::CombinedTaker;
-use nx_copies::{CopyTag, Entry, EntryHead, Over, hear_elements};
+use crate::families::Families;
+use crate::receiver_over::ReceiverOver;
+use nx_copies::{Entry, EntryHead, Over};
 use nx_envelope::{LAST_MOMENT, MAX_FOUND};
 use nx_fec::PackedElements;
 use nx_memory::{Renewing, Selection, Vital};
-use nx_receiver::{Command, MomentFault, ReceiverFault, check_moment};
-use nx_sync::Synchroniser;
+use nx_receiver::{Command, MomentFault, ReceiverFault};
 use std::alloc::Global;
 use std::marker::Model;
 
 /// A receiver of one channel that takes several sendings of a message together: what is printed is
 /// the message as all its sendings so far give it.
 ///
-/// It holds the synchroniser, the taker of copies and of their positions, what judges them, whether
-/// the text of the entry that was printed last is what a family gave, and a memory of identities.
+/// It holds the last 200 families, in memory that is taken when it is made.
 #[derive(Drop)]
 pub struct CombinedReceiver<M: Renewing> {
-    synchroniser: Synchroniser,
-    taker: CombinedTaker,
-    combiner: Combiner,
-    is_given: bool,
-    memory: M,
+    receiver: ReceiverOver<Families, M>,
 }
 
 impl<M: Renewing> Model for CombinedReceiver<M> {
     ghost use Rattle.std.specs.Coded.{codes};
     ghost use Rattle.nx_memory.specs.private.RefusedCode.{refused_code};
-    ghost use Rattle.nx_memory.specs.Memory.{newest_moment};
-    ghost use Rattle.nx_receiver.specs.private.Awaiting.{IsInOrder};
-    ghost use Rattle.nx_combine.specs.CombinedReceiver.{CombiningReceiver};
+    ghost use Rattle.nx_combine.specs.CombinedReceiver.{CombiningReceiver, receiver_held};
 
     ghost Value = { CombiningReceiver M };
 
     ghost coded = { Prim.hlevel (codes, refused_code, M.code) };
 
-    ghost view = { λ r. record {
-      synchroniser = r.synchroniser;
-      taker = r.taker;
-      combiner = r.combiner;
-      is_given = r.is_given;
-      memory = r.memory;
-    } };
-
-    ghost invariant = { λ r. IsInOrder (newest_moment (M.content r.memory))
-        r.taker.copies.tag.moment r.taker.copies.moment };
+    ghost view = { λ r. receiver_held r.receiver };
 
     ghost inverse = { λ v. record {
-      synchroniser = v.synchroniser;
-      taker = v.taker;
-      combiner = v.combiner;
-      is_given = v.is_given;
-      memory = v.memory;
+      receiver = record {
+        synchroniser = v.synchroniser;
+        taker = v.taker;
+        store = record { families = v.combiner.families; printed = v.combiner.printed };
+        finder = v.combiner.finder;
+        is_given = v.is_given;
+        memory = v.memory;
+      };
     } };
 }
 
@@ -98,18 +78,12 @@ impl<M: Renewing> CombinedReceiver<M> {
         if moment > LAST_MOMENT || memory.newest().is_some_and(|newest| moment < newest) {
             return Err(ReceiverFault::MomentRange);
         }
-        let combiner = match Combiner::new(alloc) {
-            Ok(combiner) => combiner,
+        let families = match Families::new(alloc) {
+            Ok(families) => families,
             Err(refused) => return Err(ReceiverFault::Memory(refused)),
         };
-        let taker = CombinedTaker::new(moment, selection);
-        Ok(CombinedReceiver {
-            synchroniser: Synchroniser::hunting(),
-            taker,
-            combiner,
-            is_given: false,
-            memory,
-        })
+        let receiver = ReceiverOver::beginning(families, memory, moment, selection);
+        Ok(CombinedReceiver { receiver })
     }
 
     /// Sets the moment, in whole seconds since 1970-01-01 00:00:00 UTC. `Range` where it is past
@@ -123,9 +97,7 @@ impl<M: Renewing> CombinedReceiver<M> {
         ensures refused { IfErr result (Refuses self.old.taker.copies.moment moment) }
         ensures unchanged { OnErr result (self.new ≡ self.old) }
     {
-        check_moment(self.taker.copies.moment, moment)?;
-        self.taker.copies.moment = moment;
-        Ok(())
+        self.receiver.set_moment(moment)
     }
 
     /// Does what the command says, from here on. `Vital` where it is to refuse subject A, B, D or L
@@ -138,14 +110,7 @@ impl<M: Renewing> CombinedReceiver<M> {
         ensures fault { IfErr result (λ vital. command ≡ RefuseSubject vital.subject) }
         ensures unchanged { OnErr result (self.new ≡ self.old) }
     {
-        let selection = &mut self.taker.copies.selection;
-        match command {
-            Command::RefuseStation(station) => selection.refuse_station(station),
-            Command::AcceptStation(station) => selection.accept_station(station),
-            Command::RefuseSubject(subject) => return selection.refuse_subject(subject),
-            Command::AcceptSubject(subject) => selection.accept_subject(subject),
-        }
-        Ok(())
+        self.receiver.command(command)
     }
 
     /// The text of the entry whose head was answered last, until more is heard.
@@ -153,11 +118,7 @@ impl<M: Renewing> CombinedReceiver<M> {
         ensures text { result.now ≡ text_in self.now }
         ensures short { length result.now ≤ MAX_FOUND }
     {
-        if self.is_given {
-            self.combiner.text()
-        } else {
-            self.taker.copies.reader.finder().text()
-        }
+        self.receiver.text()
     }
 
     /// Hears elements up to and with the first one with which something is over, all of them where
@@ -174,16 +135,14 @@ impl<M: Renewing> CombinedReceiver<M> {
         ensures all { result.1 ≡ None → from + result.0 ≡ length packed.now }
         ensures some { from < length packed.now → 0 < result.0 }
     {
-        let left = packed.len() - from;
-        let numbers = packed.numbers();
-        hear_elements(&mut self.taker, &mut self.synchroniser, numbers, from, left)
+        self.receiver.hear(packed, from)
     }
 
     /// Finishes what is over, and says the head of the entry that it brings, if it brings one. Its
     /// text is `text`, until more is heard. Where the lock alone is over, the end of its text ends
     /// the copy that stood open. Where a copy is over with it, the copy is judged first, and then
     /// the lock is left: that keeps the text.
-    #[inline(never)]
+    #[inline(always)]
     pub fn finish(&mut self, over: Over) -> Option<EntryHead>
         ensures stands { (start : Start) (history : List Event) (log : List TaggedCopy) →
             AwaitsAfterAll M.content start self.old history log (Some over)
@@ -191,18 +150,7 @@ impl<M: Renewing> CombinedReceiver<M> {
             (log ++ headed_list result (text_in self.new)) }
         ensures head { IfSome result (λ head. HeadsText head (text_in self.new)) }
     {
-        match over {
-            Over::Copy => self.judge_ready(),
-            Over::Lock => {
-                self.taker.close();
-                self.judge_ready()
-            }
-            Over::CopyAndLock => {
-                let head = self.judge_ready();
-                self.taker.leave_lock();
-                head
-            }
-        }
+        self.receiver.finish(&mut [], over)
     }
 
     /// Ends the elements, and hands out the entry that their end prints: that of the open copy,
@@ -213,49 +161,8 @@ impl<M: Renewing> CombinedReceiver<M> {
             → PrintsCombinedToEnd start history (log ++ entry_list result) }
         ensures moment { IfSome result (λ entry. entry.moment ≤ last_moment) }
     {
-        let mut receiver = self;
-        receiver.taker.close();
-        let head = receiver.judge_ready()?;
+        let mut receiver = self.receiver;
+        let head = receiver.end(&mut [])?;
         Some(Entry::of(&head, receiver.text()))
-    }
-
-    /// Judges the copy that the finder has, where it has one, with the positions that were noted.
-    /// Answers the head of its entry where it is printed.
-    fn judge_ready(&mut self) -> Option<EntryHead>
-        ensures none { ready_copies (hearer_in self.old) ≡ [] → (result ≡ None)
-            × (self.new.memory ≡ self.old.memory) × (self.new.combiner ≡ self.old.combiner) }
-        ensures judged { (so_far : Judged) (heard : HeardCopy)
-            → ready_copies (hearer_in self.old) ≡ heard.copy ∷ []
-            → self.old.taker.notes.positions ≡ noted heard.positions
-            → M.content self.old.memory ≡ last_of most_entries so_far.entries
-            → StandsCombined self.old.combiner so_far.families so_far.printed
-            → JudgesNext most_families M.content self.new.memory self.new.combiner so_far heard
-            (headed_list result (text_in self.new)) }
-        ensures taker { self.new.taker ≡ self.old.taker }
-        ensures synchroniser { self.new.synchroniser ≡ self.old.synchroniser }
-        ensures head { IfSome result (λ head. HeadsText head (text_in self.new)) }
-    {
-        let CopyTag {
-            moment,
-            is_selected,
-        } = self.taker.copies.tag;
-        let finder = self.taker.copies.reader.finder();
-        let found = finder.ready_head()?;
-        let head = EntryHead {
-            identity: found.identity,
-            moment,
-            how: found.how,
-            errors: found.errors,
-        };
-        let positions = self.taker.notes.positions();
-        let printed = self.combiner.judge(
-            &head,
-            finder.text(),
-            is_selected,
-            positions,
-            &mut self.memory,
-        )?;
-        self.is_given = printed.is_given;
-        Some(printed.head)
     }
 }

@@ -1,10 +1,12 @@
 -- What a call that combines a copy answers, by what becomes of the copy.
 use Rattle.std.proofs.Common.{◌≡◌, ℕ, ◌+◌, ◌-◌, Bool, true, false, if◌then◌else◌, Option, Some}
 use Rattle.std.proofs.Common.{None}
-use Rattle.std.proofs.Common.{List, ◌∷◌, length, take, refl, sym, ap, ap₂, ◌∙◌, arith}
+use Rattle.std.proofs.Common.{List, [], ◌∷◌, length, take, refl, sym, ap, ap₂, ◌∙◌, arith}
 use Rattle.std.specs.Option.{option_map_or}
 use Rattle.std.proofs.Math.ListN.{set}
 use Rattle.std.proofs.lemmas.List.{length-set}
+use Rattle.std.proofs.lemmas.Option.{slice_get_within}
+use Rattle.circular_buffer.proofs.Places.{slice_get-set_same}
 use Rattle.std.specs.Prelude.{slice_get, IfSome}
 use Rattle.nx_code.specs.Reading.{Reception}
 use Rattle.nx_envelope.specs.Copies.{Copy, errors_of}
@@ -168,6 +170,20 @@ joined-length held heard index (Some family) = length-set held index (joined_by 
 pub joined_at-length : (held : List Family) (heard : HeardCopy) (index : ℕ)
     → length (joined_at held heard index) ≡ length held
 joined_at-length held heard index = joined-length held heard index (slice_get held index)
+
+-- the family that was joined stands where it stood
+pub joined_at-there : (held : List Family) (heard : HeardCopy) (index : ℕ) (family : Family)
+    → slice_get held index ≡ Some family
+    → slice_get (joined_at held heard index) index ≡ Some (joined_by heard family)
+joined_at-there held heard index family there =
+    let within = slice_get_within held index family there in
+    ap (λ o. slice_get (option_map_or (λ (f : Family). set held index (joined_by heard f)) o held)
+    index) there
+    ∙ slice_get-set_same held index (joined_by heard family) within
+
+-- a copy of this head and these positions
+abbrev pub heard_with : EntryHead → List Reception → HeardCopy
+heard_with head positions = record { copy = headed_copy head [] true; positions = positions }
 
 pub answers_joined : (limit : ℕ) (families held new : List Family) (heard : HeardCopy)
     (read : List ℕ)

@@ -2,8 +2,8 @@
 use Rattle.std.proofs.Common.{◌≡◌, ℕ, zero, suc, ◌+◌, ◌<◌, ◌≤◌, max, List, [], ◌∷◌, ◌++◌, length}
 use Rattle.std.proofs.Common.{take, drop, get_or, refl, sym, ap, ap₂, ◌∙◌, arith, add-one}
 use Rattle.std.proofs.Math.ListN.{set}
-use Rattle.std.proofs.Math.Seq.{take-append_seam}
-use Rattle.std.proofs.lemmas.List.{length-set, length-take}
+use Rattle.std.proofs.Math.Seq.{take-append_seam, take-set-lt}
+use Rattle.std.proofs.lemmas.List.{get_or-take, length-set, length-take, take_more_set}
 use Rattle.std.specs.List.{refill}
 use Rattle.std.specs.Prelude.{slice_get, Option, Some, None}
 use Rattle.nx_code.specs.Reading.{Reception}
@@ -80,6 +80,44 @@ pub joined-step-behind : (first second held : List Reception) (i : ℕ) (y : Rec
 joined-step-behind first second held i y stands there behind y_is =
     let long = ap length stands in
     ap₂ (λ l r. l ++ r ∷ []) stands y_is
+    ∙ sym (joined-suc-behind first second i y there (omega arith))
+    ∙ ap (λ n. joined first (take n second)) (sym (add-one i))
+
+-- the same in a room, of which so many places are taken first
+pub joined-place-within : (first second room : List Reception) (count i : ℕ) (x y : Reception)
+    → take (max count i) room ≡ joined first (take i second) → i < length second → i < count
+    → count ≤ length room → x ≡ get_or room i x → y ≡ get_or second i y
+    → take (max count (i + 1)) (set room i (joined_position x y))
+    ≡ joined first (take (i + 1) second)
+joined-place-within first second room count i x y stands there within fits x_is y_is =
+    let same : max count (i + 1) ≡ count = omega arith in
+    let one : max count i ≡ count = omega arith in
+    let held : take count room ≡ joined first (take i second) =
+    ap (λ n. take n room) (sym one) ∙ stands in
+    let long = ap length held in
+    let cut = length-take count room in
+    ap (λ n. take n (set room i (joined_position x y))) same
+    ∙ take-set-lt count room i (joined_position x y) within
+    ∙ ap₂ (λ l r. set l i r) held
+    (ap₂ joined_position
+    (x_is ∙ sym (get_or-take count room i x within) ∙ ap (λ l. get_or l i x) held) y_is)
+    ∙ sym (joined-suc-within first second i x y there (omega arith))
+    ∙ ap (λ n. joined first (take n second)) (sym (add-one i))
+
+pub joined-place-behind : (first second room : List Reception) (count i : ℕ) (y : Reception)
+    → take (max count i) room ≡ joined first (take i second) → i < length second → count ≤ i
+    → i < length room → y ≡ get_or second i y
+    → take (max count (i + 1)) (set room i y) ≡ joined first (take (i + 1) second)
+joined-place-behind first second room count i y stands there behind fits y_is =
+    let same : max count (i + 1) ≡ i + 1 = omega arith in
+    let one : max count i ≡ i = omega arith in
+    let held : take i room ≡ joined first (take i second) =
+    ap (λ n. take n room) (sym one) ∙ stands in
+    let long = ap length held in
+    let cut = length-take i room in
+    ap (λ n. take n (set room i y)) same
+    ∙ take_more_set room i y fits
+    ∙ ap₂ (λ l r. l ++ r ∷ []) held y_is
     ∙ sym (joined-suc-behind first second i y there (omega arith))
     ∙ ap (λ n. joined first (take n second)) (sym (add-one i))
 

@@ -24,7 +24,7 @@ use Rattle.nx_combine.specs.CombinedPrinting.{are_of_one_family, entry_made_comb
 use Rattle.nx_combine.specs.CombinedPrinting.{if_printed_combined}
 use Rattle.nx_combine.specs.CombinedPrinting.{is_better_than_before, is_entered_combined}
 use Rattle.nx_combine.specs.CombinedPrinting.{is_printed_combined}
-use Rattle.nx_combine.specs.Combining.{IsCombined, heard_of, meant}
+use Rattle.nx_combine.specs.Combining.{IsCombined, begun_with, heard_of, meant}
 use Rattle.nx_combine.specs.CopyPositions.{HeardCopy}
 use Rattle.nx_combine.specs.declared.combining.Combined.{Combined}
 use Rattle.nx_combine.specs.Families.{CombinedCopy, Family, alone, combined_at}
@@ -143,6 +143,24 @@ stands_kept limit families more held new before printed was is stands held_is co
       printed = stands.printed ∙ ap (λ m. take limit (all_last_printed before m)) long;
       begun = still_begun before (length families) (length more) stands.begun (omega arith);
     }
+
+-- so all stands, whether one is begun or not
+pub stands_taken : (limit : ℕ) (families more held new : List Family)
+    (before : List CombinedCopy) (printed now : List (Option EntryHead)) (was is : FinderView)
+    (begins : Bool)
+    → StandsHolding limit (record { families = held; printed = printed; finder = was }) families
+    before
+    → new ≡ take limit more → length more ≡ length families + begun_with begins
+    → now ≡ (if begins then take limit (None ∷ printed) else printed)
+    → StandsHolding limit (record { families = new; printed = now; finder = is }) more before
+stands_taken limit families more held new before printed now was is true stands held_is count
+    now_is =
+    stands_begun limit families more held new before printed now was is stands held_is count now_is
+stands_taken limit families more held new before printed now was is false stands held_is count
+    now_is =
+    subst (λ (l : List (Option EntryHead)). StandsHolding limit
+    (record { families = new; printed = l; finder = is }) more before) (sym now_is)
+    (stands_kept limit families more held new before printed was is stands held_is count)
 
 all_last-at : (before : List CombinedCopy) (n index : ℕ) → index < n
     → slice_get (all_last_printed before n) index ≡ Some (last_printed before (n - 1 - index))

@@ -9,8 +9,10 @@ use Rattle.nx_copies.specs.copies.Printing.{entry_of, is_good}
 use Rattle.nx_copies.proofs.lemmas.printing.Judging.{content_grows, content_stays, newest_is_last}
 use Rattle.nx_combine.specs.CombinedPrinting.{entry_made_combined, is_printed_combined}
 use Rattle.nx_combine.specs.Combining.{meant}
-use Rattle.nx_combine.specs.Families.{CombinedCopy, combined_copy, families_after}
-use Rattle.nx_combine.specs.Judging.{StandsCombined, all_copies, text_printed}
+use Rattle.nx_combine.specs.Families.{CombinedCopy, combined_copy_holding}
+use Rattle.nx_combine.specs.Families.{families_after_holding}
+use Rattle.nx_combine.specs.Judging.{StandsHolding, all_copies, combiner_of}
+use Rattle.nx_combine.specs.Judging.{text_printed}
 use Rattle.nx_combine.proofs.lemmas.Judged.{and_second, comes_as, made_printed, made_unprinted}
 use Rattle.nx_combine.proofs.lemmas.Judged.{numbered_some, printed, some_as, unprinted}
 use Rattle.nx_combine.proofs.combiner.Combiner.judge.Goals as goal
@@ -23,9 +25,14 @@ returns-then-not-prints-clause-stands g c = λ entries families before heard is 
     let read = c.take-combined.new.self.finder.text in
     let shown = c.printed_as-one.result in
     let text = text_printed shown read own in
-    let after = families_after families heard in
-    let one = combined_copy families heard in
+    let most = g.S.HoldsFamilies.most c.args.places.now in
+    let after = families_after_holding most families heard in
+    let one = combined_copy_holding most families heard in
     let stood = c.take-combined.ensures.stands families before heard is stands in
+    let there = subst (λ m. StandsHolding m
+    (combiner_of (g.S.HoldsFamilies.held c.take-combined.new.self.store
+    c.take-combined.new.places) c.take-combined.new.self.finder) after before)
+    (sym c.take-combined.ensures.room) stood in
     let errors : shown.head.errors ≡ errors_of text =
     c.printed_as-one.ensures.errors read own c.requires.errors c.take-combined.ensures.errors in
     let comes = comes_as one after c.take-combined.result.family
@@ -34,8 +41,10 @@ returns-then-not-prints-clause-stands g c = λ entries families before heard is 
     (c.take-combined.ensures.comes_to families before heard is stands)
     (c.printed_as-one.ensures.copy read own selected) in
     let prints : c.prints.result ≡ is_printed_combined entries before one =
-    c.prints.ensures entries after before one text held stood errors comes in
-    subst (λ (l : List CombinedCopy). StandsCombined c.take-combined.new.self after (l ++ before))
+    c.prints.ensures entries after before one text held there errors comes in
+    subst (λ (l : List CombinedCopy). StandsHolding most
+    (combiner_of (g.S.HoldsFamilies.held c.take-combined.new.self.store
+    c.take-combined.new.places) c.take-combined.new.self.finder) after (l ++ before))
     (sym (unprinted entries before one (sym prints ∙ c.if-not-prints.true))) stood
 
 pub returns-then-not-prints-clause-entered : goal.returns-then-not-prints-clause-entered
@@ -46,9 +55,14 @@ returns-then-not-prints-clause-entered g c = λ entries families before heard is
     let read = c.take-combined.new.self.finder.text in
     let shown = c.printed_as-one.result in
     let text = text_printed shown read own in
-    let after = families_after families heard in
-    let one = combined_copy families heard in
+    let most = g.S.HoldsFamilies.most c.args.places.now in
+    let after = families_after_holding most families heard in
+    let one = combined_copy_holding most families heard in
     let stood = c.take-combined.ensures.stands families before heard is stands in
+    let there = subst (λ m. StandsHolding m
+    (combiner_of (g.S.HoldsFamilies.held c.take-combined.new.self.store
+    c.take-combined.new.places) c.take-combined.new.self.finder) after before)
+    (sym c.take-combined.ensures.room) stood in
     let errors : shown.head.errors ≡ errors_of text =
     c.printed_as-one.ensures.errors read own c.requires.errors c.take-combined.ensures.errors in
     let comes = comes_as one after c.take-combined.result.family
@@ -57,7 +71,7 @@ returns-then-not-prints-clause-entered g c = λ entries families before heard is
     (c.take-combined.ensures.comes_to families before heard is stands)
     (c.printed_as-one.ensures.copy read own selected) in
     let prints : c.prints.result ≡ is_printed_combined entries before one =
-    c.prints.ensures entries after before one text held stood errors comes in
+    c.prints.ensures entries after before one text held there errors comes in
     content_stays entries (entry_made_combined entries before one)
     (g.M.Recall.content c.args.memory.now) held
     (made_unprinted entries before one (sym prints ∙ c.if-not-prints.true))
@@ -70,9 +84,14 @@ returns-then-not-prints-clause-printed g c = λ entries families before heard is
     let read = c.take-combined.new.self.finder.text in
     let shown = c.printed_as-one.result in
     let text = text_printed shown read own in
-    let after = families_after families heard in
-    let one = combined_copy families heard in
+    let most = g.S.HoldsFamilies.most c.args.places.now in
+    let after = families_after_holding most families heard in
+    let one = combined_copy_holding most families heard in
     let stood = c.take-combined.ensures.stands families before heard is stands in
+    let there = subst (λ m. StandsHolding m
+    (combiner_of (g.S.HoldsFamilies.held c.take-combined.new.self.store
+    c.take-combined.new.places) c.take-combined.new.self.finder) after before)
+    (sym c.take-combined.ensures.room) stood in
     let errors : shown.head.errors ≡ errors_of text =
     c.printed_as-one.ensures.errors read own c.requires.errors c.take-combined.ensures.errors in
     let comes = comes_as one after c.take-combined.result.family
@@ -81,7 +100,7 @@ returns-then-not-prints-clause-printed g c = λ entries families before heard is
     (c.take-combined.ensures.comes_to families before heard is stands)
     (c.printed_as-one.ensures.copy read own selected) in
     let prints : c.prints.result ≡ is_printed_combined entries before one =
-    c.prints.ensures entries after before one text held stood errors comes in
+    c.prints.ensures entries after before one text held there errors comes in
     ap all_copies (unprinted entries before one (sym prints ∙ c.if-not-prints.true))
 
 pub renew-requires-clause-numbered : goal.renew-requires-clause-numbered
@@ -110,9 +129,14 @@ returns-then-is_entered-clause-stands g c = λ entries families before heard is 
     let read = c.take-combined.new.self.finder.text in
     let shown = c.printed_as-one.result in
     let text = text_printed shown read own in
-    let after = families_after families heard in
-    let one = combined_copy families heard in
+    let most = g.S.HoldsFamilies.most c.args.places.now in
+    let after = families_after_holding most families heard in
+    let one = combined_copy_holding most families heard in
     let stood = c.take-combined.ensures.stands families before heard is stands in
+    let there = subst (λ m. StandsHolding m
+    (combiner_of (g.S.HoldsFamilies.held c.take-combined.new.self.store
+    c.take-combined.new.places) c.take-combined.new.self.finder) after before)
+    (sym c.take-combined.ensures.room) stood in
     let errors : shown.head.errors ≡ errors_of text =
     c.printed_as-one.ensures.errors read own c.requires.errors c.take-combined.ensures.errors in
     let comes = comes_as one after c.take-combined.result.family
@@ -121,10 +145,15 @@ returns-then-is_entered-clause-stands g c = λ entries families before heard is 
     (c.take-combined.ensures.comes_to families before heard is stands)
     (c.printed_as-one.ensures.copy read own selected) in
     let prints : c.prints.result ≡ is_printed_combined entries before one =
-    c.prints.ensures entries after before one text held stood errors comes in
-    subst (λ (l : List CombinedCopy). StandsCombined c.note.new.self after (l ++ before))
+    c.prints.ensures entries after before one text held there errors comes in
+    subst (λ (l : List CombinedCopy). StandsHolding most
+    (combiner_of (g.S.HoldsFamilies.held c.note.new.self.store c.note.new.places)
+    c.note.new.self.finder) after (l ++ before))
     (sym (printed entries before one (sym prints ∙ c.if-not-prints.false)))
-    (c.note.ensures.stands after before one text selected stood errors comes)
+    (subst (λ m. StandsHolding m
+    (combiner_of (g.S.HoldsFamilies.held c.note.new.self.store c.note.new.places)
+    c.note.new.self.finder) after (one ∷ before)) c.take-combined.ensures.room
+    (c.note.ensures.stands after before one text selected there errors comes))
 
 pub returns-then-is_entered-clause-entered : goal.returns-then-is_entered-clause-entered
 returns-then-is_entered-clause-entered g c = λ entries families before heard is held stands.
@@ -134,9 +163,14 @@ returns-then-is_entered-clause-entered g c = λ entries families before heard is
     let read = c.take-combined.new.self.finder.text in
     let shown = c.printed_as-one.result in
     let text = text_printed shown read own in
-    let after = families_after families heard in
-    let one = combined_copy families heard in
+    let most = g.S.HoldsFamilies.most c.args.places.now in
+    let after = families_after_holding most families heard in
+    let one = combined_copy_holding most families heard in
     let stood = c.take-combined.ensures.stands families before heard is stands in
+    let there = subst (λ m. StandsHolding m
+    (combiner_of (g.S.HoldsFamilies.held c.take-combined.new.self.store
+    c.take-combined.new.places) c.take-combined.new.self.finder) after before)
+    (sym c.take-combined.ensures.room) stood in
     let errors : shown.head.errors ≡ errors_of text =
     c.printed_as-one.ensures.errors read own c.requires.errors c.take-combined.ensures.errors in
     let comes = comes_as one after c.take-combined.result.family
@@ -145,7 +179,7 @@ returns-then-is_entered-clause-entered g c = λ entries families before heard is
     (c.take-combined.ensures.comes_to families before heard is stands)
     (c.printed_as-one.ensures.copy read own selected) in
     let prints : c.prints.result ≡ is_printed_combined entries before one =
-    c.prints.ensures entries after before one text held stood errors comes in
+    c.prints.ensures entries after before one text held there errors comes in
     let same : c.text_of.result.now ≡ text =
     c.text_of.ensures.text
     ∙ ap (λ (f : FinderView). text_printed shown f.text own) c.note.ensures.finder in
@@ -177,9 +211,14 @@ returns-then-is_entered-clause-printed g c = λ entries families before heard is
     let read = c.take-combined.new.self.finder.text in
     let shown = c.printed_as-one.result in
     let text = text_printed shown read own in
-    let after = families_after families heard in
-    let one = combined_copy families heard in
+    let most = g.S.HoldsFamilies.most c.args.places.now in
+    let after = families_after_holding most families heard in
+    let one = combined_copy_holding most families heard in
     let stood = c.take-combined.ensures.stands families before heard is stands in
+    let there = subst (λ m. StandsHolding m
+    (combiner_of (g.S.HoldsFamilies.held c.take-combined.new.self.store
+    c.take-combined.new.places) c.take-combined.new.self.finder) after before)
+    (sym c.take-combined.ensures.room) stood in
     let errors : shown.head.errors ≡ errors_of text =
     c.printed_as-one.ensures.errors read own c.requires.errors c.take-combined.ensures.errors in
     let comes = comes_as one after c.take-combined.result.family
@@ -188,7 +227,7 @@ returns-then-is_entered-clause-printed g c = λ entries families before heard is
     (c.take-combined.ensures.comes_to families before heard is stands)
     (c.printed_as-one.ensures.copy read own selected) in
     let prints : c.prints.result ≡ is_printed_combined entries before one =
-    c.prints.ensures entries after before one text held stood errors comes in
+    c.prints.ensures entries after before one text held there errors comes in
     ap all_copies (printed entries before one (sym prints ∙ c.if-not-prints.false))
     ∙ ap (λ (t : TaggedCopy). t ∷ []) comes.is
     ∙ ap (λ (f : FinderView). headed_copy shown.head (text_printed shown f.text own) selected ∷ [])
@@ -207,9 +246,14 @@ returns-else-is_entered-clause-stands g c = λ entries families before heard is 
     let read = c.take-combined.new.self.finder.text in
     let shown = c.printed_as-one.result in
     let text = text_printed shown read own in
-    let after = families_after families heard in
-    let one = combined_copy families heard in
+    let most = g.S.HoldsFamilies.most c.args.places.now in
+    let after = families_after_holding most families heard in
+    let one = combined_copy_holding most families heard in
     let stood = c.take-combined.ensures.stands families before heard is stands in
+    let there = subst (λ m. StandsHolding m
+    (combiner_of (g.S.HoldsFamilies.held c.take-combined.new.self.store
+    c.take-combined.new.places) c.take-combined.new.self.finder) after before)
+    (sym c.take-combined.ensures.room) stood in
     let errors : shown.head.errors ≡ errors_of text =
     c.printed_as-one.ensures.errors read own c.requires.errors c.take-combined.ensures.errors in
     let comes = comes_as one after c.take-combined.result.family
@@ -218,10 +262,15 @@ returns-else-is_entered-clause-stands g c = λ entries families before heard is 
     (c.take-combined.ensures.comes_to families before heard is stands)
     (c.printed_as-one.ensures.copy read own selected) in
     let prints : c.prints.result ≡ is_printed_combined entries before one =
-    c.prints.ensures entries after before one text held stood errors comes in
-    subst (λ (l : List CombinedCopy). StandsCombined c.note.new.self after (l ++ before))
+    c.prints.ensures entries after before one text held there errors comes in
+    subst (λ (l : List CombinedCopy). StandsHolding most
+    (combiner_of (g.S.HoldsFamilies.held c.note.new.self.store c.note.new.places)
+    c.note.new.self.finder) after (l ++ before))
     (sym (printed entries before one (sym prints ∙ c.if-not-prints.false)))
-    (c.note.ensures.stands after before one text selected stood errors comes)
+    (subst (λ m. StandsHolding m
+    (combiner_of (g.S.HoldsFamilies.held c.note.new.self.store c.note.new.places)
+    c.note.new.self.finder) after (one ∷ before)) c.take-combined.ensures.room
+    (c.note.ensures.stands after before one text selected there errors comes))
 
 pub returns-else-is_entered-clause-entered : goal.returns-else-is_entered-clause-entered
 returns-else-is_entered-clause-entered g c = λ entries families before heard is held stands.
@@ -231,9 +280,14 @@ returns-else-is_entered-clause-entered g c = λ entries families before heard is
     let read = c.take-combined.new.self.finder.text in
     let shown = c.printed_as-one.result in
     let text = text_printed shown read own in
-    let after = families_after families heard in
-    let one = combined_copy families heard in
+    let most = g.S.HoldsFamilies.most c.args.places.now in
+    let after = families_after_holding most families heard in
+    let one = combined_copy_holding most families heard in
     let stood = c.take-combined.ensures.stands families before heard is stands in
+    let there = subst (λ m. StandsHolding m
+    (combiner_of (g.S.HoldsFamilies.held c.take-combined.new.self.store
+    c.take-combined.new.places) c.take-combined.new.self.finder) after before)
+    (sym c.take-combined.ensures.room) stood in
     let errors : shown.head.errors ≡ errors_of text =
     c.printed_as-one.ensures.errors read own c.requires.errors c.take-combined.ensures.errors in
     let comes = comes_as one after c.take-combined.result.family
@@ -242,7 +296,7 @@ returns-else-is_entered-clause-entered g c = λ entries families before heard is
     (c.take-combined.ensures.comes_to families before heard is stands)
     (c.printed_as-one.ensures.copy read own selected) in
     let prints : c.prints.result ≡ is_printed_combined entries before one =
-    c.prints.ensures entries after before one text held stood errors comes in
+    c.prints.ensures entries after before one text held there errors comes in
     let same : c.text_of.result.now ≡ text =
     c.text_of.ensures.text
     ∙ ap (λ (f : FinderView). text_printed shown f.text own) c.note.ensures.finder in
@@ -267,9 +321,14 @@ returns-else-is_entered-clause-printed g c = λ entries families before heard is
     let read = c.take-combined.new.self.finder.text in
     let shown = c.printed_as-one.result in
     let text = text_printed shown read own in
-    let after = families_after families heard in
-    let one = combined_copy families heard in
+    let most = g.S.HoldsFamilies.most c.args.places.now in
+    let after = families_after_holding most families heard in
+    let one = combined_copy_holding most families heard in
     let stood = c.take-combined.ensures.stands families before heard is stands in
+    let there = subst (λ m. StandsHolding m
+    (combiner_of (g.S.HoldsFamilies.held c.take-combined.new.self.store
+    c.take-combined.new.places) c.take-combined.new.self.finder) after before)
+    (sym c.take-combined.ensures.room) stood in
     let errors : shown.head.errors ≡ errors_of text =
     c.printed_as-one.ensures.errors read own c.requires.errors c.take-combined.ensures.errors in
     let comes = comes_as one after c.take-combined.result.family
@@ -278,7 +337,7 @@ returns-else-is_entered-clause-printed g c = λ entries families before heard is
     (c.take-combined.ensures.comes_to families before heard is stands)
     (c.printed_as-one.ensures.copy read own selected) in
     let prints : c.prints.result ≡ is_printed_combined entries before one =
-    c.prints.ensures entries after before one text held stood errors comes in
+    c.prints.ensures entries after before one text held there errors comes in
     ap all_copies (printed entries before one (sym prints ∙ c.if-not-prints.false))
     ∙ ap (λ (t : TaggedCopy). t ∷ []) comes.is
     ∙ ap (λ (f : FinderView). headed_copy shown.head (text_printed shown f.text own) selected ∷ [])

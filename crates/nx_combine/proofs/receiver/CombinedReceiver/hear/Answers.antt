@@ -1,38 +1,18 @@
-use Rattle.std.proofs.Common.{◌-◌, arith}
-use Rattle.nx_combine.specs.CombinedReceiver.{CombiningReceiver}
-use Rattle.nx_combine.proofs.lemmas.TogetherHears.{none_before_together, part_together}
+use Rattle.std.proofs.Common.{[], drop, subst, take}
+use Rattle.nx_receiver.specs.ChannelReceiver.{HandsOutNoneBeforeBy, HearsUpToBy}
+use Rattle.nx_combine.specs.CombinedReceiver.{AwaitsAfterAll, combined_kind, receiver_held}
 use Rattle.nx_combine.proofs.receiver.CombinedReceiver.hear.Goals as goal
 
 pub returns-clause-stands : goal.returns-clause-stands
 returns-clause-stands g c =
-    let i = c.self.inside in
-    let heard = c.hear_elements in
-    let old : CombiningReceiver _ = record {
-      synchroniser = i.synchroniser;
-      taker = i.taker;
-      combiner = i.combiner;
-      is_given = i.is_given;
-      memory = i.memory;
-    } in
-    part_together 200 g.M.Recall.content c.args.self.now old c.args.packed.now
-    c.numbers-numbers.result.now c.args.from (c.len.result - c.args.from)
-    heard.new.synchroniser heard.new.taker heard.result c.self.view_is
-    c.numbers-numbers.ensures.elements (omega arith) (omega (arith, c.len.ensures.count))
-    heard.ensures.hears
+    let content = g.M.Recall.content in
+    subst (λ r. HearsUpToBy (combined_kind content) (AwaitsAfterAll content) r
+    (receiver_held c.hear.new.self)
+    (take c.hear.result.0 (drop c.args.from c.args.packed.now)) c.hear.result.1)
+    c.self.view_is (c.hear.ensures.stands [])
 
 pub returns-clause-first : goal.returns-clause-first
 returns-clause-first g c =
-    let i = c.self.inside in
-    let heard = c.hear_elements in
-    let old : CombiningReceiver _ = record {
-      synchroniser = i.synchroniser;
-      taker = i.taker;
-      combiner = i.combiner;
-      is_given = i.is_given;
-      memory = i.memory;
-    } in
-    none_before_together 200 g.M.Recall.content c.args.self.now old c.args.packed.now
-    c.numbers-numbers.result.now c.args.from (c.len.result - c.args.from)
-    heard.new.synchroniser heard.new.taker heard.result c.self.view_is
-    c.numbers-numbers.ensures.elements (omega arith) (omega (arith, c.len.ensures.count))
-    heard.ensures.hears
+    subst (λ r. HandsOutNoneBeforeBy (combined_kind g.M.Recall.content) r
+    (drop c.args.from c.args.packed.now) c.hear.result.0)
+    c.self.view_is (c.hear.ensures.first [])

@@ -1,10 +1,14 @@
-use Rattle.std.proofs.Common.{refl, sym, subst}
-use Rattle.nx_combine.specs.CombinedReceiver.{StandsAfterAll}
-use Rattle.nx_receiver.proofs.lemmas.receiver.Events.{a_moment}
-use Rattle.nx_combine.proofs.lemmas.TogetherEvents.{together_after}
+use Rattle.std.proofs.Common.{[], subst}
+use Rattle.std.proofs.lemmas.Result.{on_ok_weaker}
+use Rattle.nx_copies.specs.Events.{at_moment}
+use Rattle.nx_receiver.specs.ChannelReceiver.{TakesEventBy}
+use Rattle.nx_combine.specs.CombinedReceiver.{combined_kind, receiver_held}
 use Rattle.nx_combine.proofs.receiver.CombinedReceiver.set_moment.Goals as goal
 
 pub returns-clause-stands : goal.returns-clause-stands
-returns-clause-stands g c start history log stands =
-    together_after 200 g.M.Recall.content _ _ _ a_moment refl start history log
-    (subst (λ r. StandsAfterAll g.M.Recall.content start r history log) (sym c.self.view_is) stands)
+returns-clause-stands g c =
+    on_ok_weaker c.set_moment.result
+    (λ takes. subst (λ r. TakesEventBy (combined_kind g.M.Recall.content) r
+    (receiver_held c.set_moment.new.self)
+    (at_moment c.args.moment))
+    c.self.view_is (takes [])) c.set_moment.ensures.stands

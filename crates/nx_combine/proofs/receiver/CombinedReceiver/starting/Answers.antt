@@ -1,23 +1,7 @@
-use Rattle.std.proofs.Common.{◌≡◌, ◌∙◌, ap₂, false, sym}
-use Rattle.nx_copies.specs.Events.{first_setting}
-use Rattle.nx_copies.specs.hearing.CopyHearing.{in_force}
-use Rattle.nx_combine.specs.CombinedReceiver.{CombiningReceiver, hearer_in}
-use Rattle.nx_combine.proofs.lemmas.JudgedOn.{begins_together}
+use Rattle.std.proofs.Common.{[]}
 use Rattle.nx_combine.proofs.receiver.CombinedReceiver.starting.Goals as goal
 
 pub returns-clause-stands : goal.returns-clause-stands
-returns-clause-stands g c start entries moment selection =
-    let taker = c.new-taker in
-    let receiver : CombiningReceiver _ = record {
-      synchroniser = c.hunting.result;
-      taker = taker.result;
-      combiner = c.in-Ok.combiner;
-      is_given = false;
-      memory = c.args.memory;
-    } in
-    let force : in_force (hearer_in receiver) ≡ first_setting start =
-    ap₂ (λ m r. record { moment = m; refused = r }) (taker.ensures.moment ∙ sym moment)
-    (taker.ensures.selection ∙ sym selection) in
-    begins_together 200 g.M.Recall.content start receiver
-    (taker.ensures.stands (first_setting start) c.hunting.result c.hunting.ensures.stands) force
-    c.in-Ok.ensures entries c.newest.ensures.bounded
+returns-clause-stands g c = λ start entries moment selection.
+    c.beginning-receiver.ensures.stands [] start c.in-Ok.ensures.families c.in-Ok.ensures.printed
+    entries moment selection

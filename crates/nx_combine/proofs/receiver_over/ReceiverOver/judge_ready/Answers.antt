@@ -4,10 +4,11 @@ use Rattle.nx_envelope.specs.declared.finder.Finder.{Finder}
 use Rattle.nx_copies.specs.copies.FoundCopies.{TaggedCopy, headed_copy}
 use Rattle.nx_copies.specs.hearing.CopyHearer.{ready_copies, ready_in}
 use Rattle.nx_receiver.proofs.lemmas.receiver.Given.{has_head, headed_ready, with_moment}
-use Rattle.nx_combine.specs.CombinedReceiver.{CombiningReceiver, hearer_in}
-use Rattle.nx_combine.specs.Judging.{IsGivenAs, StandsCombined, copies_printed}
+use Rattle.nx_combine.specs.CombinedReceiver.{ReceiverOver, hearer_in, receiver_in}
+use Rattle.nx_combine.specs.Judging.{IsGivenAs, StandsHolding, combiner_of}
+use Rattle.nx_combine.specs.Judging.{copies_printed}
 use Rattle.nx_combine.proofs.lemmas.JudgedOn.{no_entry, printed_was_selected}
-use Rattle.nx_combine.proofs.receiver.CombinedReceiver.judge_ready.Goals as goal
+use Rattle.nx_combine.proofs.receiver_over.ReceiverOver.judge_ready.Goals as goal
 
 pub judge-requires-clause-errors : goal.judge-requires-clause-errors
 judge-requires-clause-errors g c =
@@ -19,7 +20,10 @@ judge-requires-clause-errors g c =
 pub returns-in_err-printed-clause-judged : goal.returns-in_err-printed-clause-judged
 returns-in_err-printed-clause-judged g c judged heard ready noted entries stands =
     let content = g.M.Recall.content in
-    let now = c.args.self.now in
+    let held = g.S.HoldsFamilies.held in
+    let places = c.args.places.now in
+    let most = g.S.HoldsFamilies.most places in
+    let now = receiver_in held c.args.self.now places in
     let view = c.self.view_is in
     let kept = c.self.inside.taker.copies.tag in
     let found = c.in_ok-found.found in
@@ -27,7 +31,7 @@ returns-in_err-printed-clause-judged g c judged heard ready noted entries stands
     c.ready_head.ensures.none c.ready_head.ensures.head in
     let copy = headed_copy (with_moment found kept.moment) c.text.result.now kept.is_selected in
     let one : ready_copies (hearer_in now) ≡ copy ∷ [] =
-    sym (ap (λ (r : CombiningReceiver g.row.M.Denot). ready_copies (hearer_in r)) view)
+    sym (ap (λ (r : ReceiverOver _ _). ready_copies (hearer_in (receiver_in held r places))) view)
     ∙ ap (λ (f : Finder). ready_in f.copy f.text kept) (sym c.finder-finder.ensures)
     ∙ headed_ready c.finder-finder.result.now found kept has
     ∙ ap (λ t. headed_copy (with_moment found kept.moment) t kept.is_selected ∷ [])
@@ -36,11 +40,11 @@ returns-in_err-printed-clause-judged g c judged heard ready noted entries stands
     let given : IsGivenAs heard copy c.positions-positions.result.now = record {
       heard_copy = cc;
       given = c.positions-positions.ensures
-          ∙ ap (λ (r : CombiningReceiver g.row.M.Denot). r.taker.notes.positions) view ∙ noted;
+          ∙ ap (λ (r : ReceiverOver _ _). r.taker.notes.positions) view ∙ noted;
     } in
-    let holds = ap (λ (r : CombiningReceiver g.row.M.Denot). content r.memory) view ∙ entries in
-    let was = subst (λ v. StandsCombined v judged.families judged.printed)
-    (sym (ap (λ (r : CombiningReceiver g.row.M.Denot). r.combiner) view)) stands in
+    let holds = ap (λ (r : ReceiverOver _ _). content r.memory) view ∙ entries in
+    let was = subst (λ v. StandsHolding most v judged.families judged.printed)
+    (sym (ap (λ (r : ReceiverOver _ _). combiner_of (held r.store places) r.finder) view)) stands in
     let is = c.judge.ensures in
     record {
       stands = is.stands judged.entries judged.families judged.printed heard given holds was;
@@ -57,7 +61,10 @@ returns-in_err-printed-clause-judged g c judged heard ready noted entries stands
 pub returns-clause-judged : goal.returns-clause-judged
 returns-clause-judged g c judged heard ready noted entries stands =
     let content = g.M.Recall.content in
-    let now = c.args.self.now in
+    let held = g.S.HoldsFamilies.held in
+    let places = c.args.places.now in
+    let most = g.S.HoldsFamilies.most places in
+    let now = receiver_in held c.args.self.now places in
     let view = c.self.view_is in
     let kept = c.self.inside.taker.copies.tag in
     let found = c.in_ok-found.found in
@@ -65,7 +72,7 @@ returns-clause-judged g c judged heard ready noted entries stands =
     c.ready_head.ensures.none c.ready_head.ensures.head in
     let copy = headed_copy (with_moment found kept.moment) c.text.result.now kept.is_selected in
     let one : ready_copies (hearer_in now) ≡ copy ∷ [] =
-    sym (ap (λ (r : CombiningReceiver g.row.M.Denot). ready_copies (hearer_in r)) view)
+    sym (ap (λ (r : ReceiverOver _ _). ready_copies (hearer_in (receiver_in held r places))) view)
     ∙ ap (λ (f : Finder). ready_in f.copy f.text kept) (sym c.finder-finder.ensures)
     ∙ headed_ready c.finder-finder.result.now found kept has
     ∙ ap (λ t. headed_copy (with_moment found kept.moment) t kept.is_selected ∷ [])
@@ -74,18 +81,19 @@ returns-clause-judged g c judged heard ready noted entries stands =
     let given : IsGivenAs heard copy c.positions-positions.result.now = record {
       heard_copy = cc;
       given = c.positions-positions.ensures
-          ∙ ap (λ (r : CombiningReceiver g.row.M.Denot). r.taker.notes.positions) view ∙ noted;
+          ∙ ap (λ (r : ReceiverOver _ _). r.taker.notes.positions) view ∙ noted;
     } in
-    let holds = ap (λ (r : CombiningReceiver g.row.M.Denot). content r.memory) view ∙ entries in
-    let was = subst (λ v. StandsCombined v judged.families judged.printed)
-    (sym (ap (λ (r : CombiningReceiver g.row.M.Denot). r.combiner) view)) stands in
+    let holds = ap (λ (r : ReceiverOver _ _). content r.memory) view ∙ entries in
+    let was = subst (λ v. StandsHolding most v judged.families judged.printed)
+    (sym (ap (λ (r : ReceiverOver _ _). combiner_of (held r.store places) r.finder) view)) stands in
     let is = c.judge.ensures in
     record {
       stands = is.stands judged.entries judged.families judged.printed heard given holds was;
       entered = is.entered judged.entries judged.families judged.printed heard given holds was;
       printed_is =
-          printed_was_selected 200 judged heard c.in_ok-printed.printed c.judge.new.self.finder.text
-          c.text.result.now kept.is_selected (ap (λ (t : TaggedCopy). t.selected) given.heard_copy)
+          printed_was_selected most judged heard c.in_ok-printed.printed
+          c.judge.new.self.finder.text c.text.result.now kept.is_selected
+          (ap (λ (t : TaggedCopy). t.selected) given.heard_copy)
           (is.printed judged.entries judged.families judged.printed heard given holds was
           ∙ ap (λ o. copies_printed o c.judge.new.self.finder.text c.text.result.now
           kept.is_selected) c.in_ok-printed.was)

@@ -1,0 +1,126 @@
+//! A place for a family in room that a caller lends.
+
+ghost use Rattle.std.specs.Prelude.{◌≡◌, ◌≤◌, None, Some, length, max, take};
+ghost use Rattle.nx_envelope.specs.Identity.{same_identity};
+ghost use Rattle.nx_combine.specs.CopyPositions.{HeardCopy};
+ghost use Rattle.nx_combine.specs.Families as spec;
+ghost use Rattle.nx_combine.specs.Joining.{joined};
+
+use crate::joining::MAX_POSITIONS;
+use crate::plain_head::{PlainHead, PlainIdentity};
+use crate::position::Position;
+use nx_copies::EntryHead;
+use nx_envelope::Identity;
+use std::marker::Model;
+use std::mem::size_of;
+
+/// A place for a family, and for the head of its last combined copy that was printed. It holds
+/// numbers alone, and is one where all its bytes are zero. None is made or moved as a whole.
+#[repr(C)]
+#[derive(Drop)]
+pub struct FamilyPlace {
+    moment: u64,
+    count: usize,
+    printed: PlainHead,
+    identity: PlainIdentity,
+    positions: [Position; MAX_POSITIONS],
+}
+
+impl Model for FamilyPlace {
+    ghost use Rattle.std.specs.Prelude.{◌≤◌, take};
+    ghost use Rattle.nx_combine.specs.FamilyPlaces.{LentFamily};
+    ghost use Rattle.nx_combine.specs.Families.{most_positions};
+
+    ghost Value = { LentFamily };
+
+    ghost view = { λ place. record {
+      family = record {
+        identity = place.identity;
+        moment = place.moment;
+        positions = take place.count place.positions;
+      };
+      printed = place.printed;
+    } };
+
+    ghost invariant = { λ place. place.count ≤ most_positions };
+}
+
+impl FamilyPlace {
+    /// Whether the copies of its family are of this identity.
+    pub(crate) fn is_of(&self, identity: Identity) -> bool
+        ensures { result ≡ same_identity self.now.family.identity identity }
+    {
+        self.identity.identity() == identity
+    }
+
+    /// The moment of the first of them.
+    pub(crate) fn moment(&self) -> u64
+        ensures { result ≡ self.now.family.moment }
+    {
+        self.moment
+    }
+
+    /// Their positions, joined.
+    pub(crate) fn positions(&self) -> &[Position]
+        ensures { result.now ≡ self.now.family.positions }
+    {
+        &self.positions[..self.count]
+    }
+
+    /// The head of the last combined copy that was printed.
+    pub(crate) fn printed(&self) -> Option<EntryHead>
+        ensures { result ≡ self.now.printed }
+    {
+        self.printed.head()
+    }
+
+    /// Begins a family with a copy, by its head and its positions; nothing was printed of it.
+    pub(crate) fn begin(&mut self, head: &EntryHead, positions: &[Position])
+        requires { length positions.now ≤ MAX_POSITIONS }
+        ensures identity { self.new.family.identity ≡ head.now.identity }
+        ensures moment { self.new.family.moment ≡ head.now.moment }
+        ensures positions { self.new.family.positions ≡ positions.now }
+        ensures printed { self.new.printed ≡ None }
+    {
+        prove!(size_of::<FamilyPlace>() == 8232);
+        self.identity = PlainIdentity::of(head.identity);
+        self.moment = head.moment;
+        self.printed = PlainHead::none(head.identity);
+        self.count = positions.len();
+        self.positions[..positions.len()].copy_from_slice(positions);
+    }
+
+    /// Joins the positions of a copy to those of the family.
+    pub(crate) fn join(&mut self, positions: &[Position])
+        requires { length positions.now ≤ MAX_POSITIONS }
+        ensures joined { (heard : HeardCopy) → heard.positions ≡ positions.now
+            → self.new.family ≡ spec.joined_by heard self.old.family }
+        ensures printed { self.new.printed ≡ self.old.printed }
+    {
+        join_in(&mut self.positions, self.count, positions);
+        self.count = self.count.max(positions.len());
+    }
+
+    /// Notes the head of a combined copy, which is printed.
+    pub(crate) fn note(&mut self, head: EntryHead)
+        ensures family { self.new.family ≡ self.old.family }
+        ensures printed { self.new.printed ≡ Some head }
+    {
+        self.printed = PlainHead::of(head);
+    }
+}
+
+/// Joins the positions of a copy to the first ones of a room, so many, as `join` does.
+fn join_in(room: &mut [Position], count: usize, copy: &[Position])
+    requires count { count ≤ length room.old }
+    requires short { length copy.now ≤ length room.old }
+    ensures { take (max count (length copy.now)) room.new ≡ joined (take count room.old) copy.now }
+{
+    for (index, position) in copy.iter().enumerate() {
+        room[index] = if index < count {
+            room[index].join(*position)
+        } else {
+            *position
+        };
+    }
+}
