@@ -1,7 +1,10 @@
 -- Bytes that are the beginning of an entry.
-pub mod Dates
+pub mod Bytes
+pub mod Counts
+pub mod Heads
 pub mod Joins
 pub mod Lists
-pub mod Parts
 pub mod Stages
+pub mod Texts
+pub mod Times
 pub mod Wholes

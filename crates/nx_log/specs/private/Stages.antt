@@ -1,8 +1,8 @@
 -- An entry piece by piece, from left to right, for bytes that end anywhere in one.
-use Rattle.std.specs.Prelude.{◌≡◌, ◌≢◌, ℕ, ◌≤◌, Bool, true, false, List, [], ◌∷◌, ◌++◌, length, All, IsTrue, decimal}
+use Rattle.std.specs.Prelude.{◌≡◌, ◌≢◌, ℕ, ◌≤◌, ◌==◌, if◌then◌else◌, List, [], ◌∷◌, ◌++◌, length, All, IsTrue, Option, None, Some, decimal}
 use Rattle.nx_envelope.specs.Copies.{errors_of, most_found}
 use Rattle.nx_code.specs.Reading.{newline, space}
-use Rattle.nx_envelope.specs.Identity.{identity_bytes}
+use Rattle.nx_envelope.specs.Identity.{identity_bytes, two_digits}
 use Rattle.nx_envelope.specs.Moment.{IsShownAs, last_moment}
 use Rattle.nx_envelope.specs.declared.found.How.{How}
 use Rattle.nx_envelope.specs.declared.identity.Identity.{Identity}
@@ -27,22 +27,45 @@ pub record Joined {A : Type 0} (piece_is : A → List ℕ → Type 0) (rest_is :
 abbrev pub Spells : {A : Type 0} → (A → List ℕ → Type 0) → List ℕ → Type 0
 Spells {A} piece_is spelled = (piece : A) × piece_is piece spelled
 
--- What bytes lack that don't begin with such a spelling: its end, which some bytes to come bring;
--- or they begin with none, whatever comes behind them.
+-- Bytes to come make such a spelling of these, of which they are the beginning.
+abbrev pub CanEnd : (List ℕ → Type 0) → List ℕ → Type 0
+CanEnd is bytes = (more : List ℕ) × is (bytes ++ more) × (more ≢ [])
+
+-- Whatever comes behind these bytes, they begin with no such spelling.
+abbrev pub NeverBegin : (List ℕ → Type 0) → List ℕ → Type 0
+NeverBegin is bytes = (more spelled rest : List ℕ) → is spelled → bytes ++ more ≢ spelled ++ rest
+
+-- the bytes break off at the first of those that are left
+pub record BreakOff (is : List ℕ → Type 0) (bytes left : List ℕ) : Type 0 where
+  pub front : List ℕ
+  pub byte : ℕ
+  pub behind : List ℕ
+  pub split : bytes ≡ front ++ left
+  pub first : left ≡ byte ∷ behind
+  pub can : CanEnd is front
+  pub never : NeverBegin is (front ++ byte ∷ [])
+
+-- what bytes lack that don't begin with such a spelling
 abbrev pub Lacks : (List ℕ → Type 0) → List ℕ → Lack → Type 0
-Lacks is bytes Unfinished = (more : List ℕ) × is (bytes ++ more) × (more ≢ [])
-Lacks is bytes Broken = (more spelled rest : List ℕ) → is spelled → bytes ++ more ≢ spelled ++ rest
+Lacks is bytes Unfinished = CanEnd is bytes
+Lacks is bytes (Broken left) = BreakOff is bytes left.now
 
-abbrev pub lack_of : Bool → Lack
-lack_of true = Unfinished
-lack_of false = Broken
-
--- the bytes are the beginning of such a piece, which lacks some at its end
-pub record IsPartOf {A : Type 0} (piece_is : A → List ℕ → Type 0) (bytes : List ℕ) : Type 0 where
-  pub piece : A
+-- the second list is the first and then more
+pub record Extends (front all : List ℕ) : Type 0 where
   pub more : List ℕ
-  pub is_piece : piece_is piece (bytes ++ more)
-  pub lacks : more ≢ []
+  pub is : all ≡ front ++ more
+
+-- a byte in a range
+pub record IsByte (least most byte : ℕ) (spelled : List ℕ) : Type 0 where
+  pub enough : least ≤ byte
+  pub few : byte ≤ most
+  pub is_spelled : spelled ≡ byte ∷ []
+
+-- a fixed text, and the two digits of a number in a range
+pub record IsNumber (before : List ℕ) (least most number : ℕ) (spelled : List ℕ) : Type 0 where
+  pub enough : least ≤ number
+  pub few : number ≤ most
+  pub is_spelled : spelled ≡ before ++ two_digits number
 
 -- the bracket behind a head, and the slash in it
 abbrev pub closing_bracket : ℕ
@@ -59,11 +82,14 @@ IsName identity spelled = spelled ≡ bracket ∷ identity_bytes identity
 abbrev pub IsMark : Channel → List ℕ → Type 0
 IsMark channel spelled = spelled ≡ channel_mark channel ++ space ∷ []
 
--- the text is the civil time of some moment in range
-pub record ShowsSome (text : List ℕ) : Type 0 where
-  pub moment : ℕ
+-- the civil time of a moment in range
+pub record IsCivilTime (moment : ℕ) (text : List ℕ) : Type 0 where
   pub in_range : moment ≤ last_moment
   pub shown : IsShownAs moment text
+
+-- the first year of a century that has such moments, by its last two digits
+abbrev pub year_from : ℕ → ℕ
+year_from century = if century == 19 then 70 else 0
 
 -- the civil time of a moment in range, and a space
 pub record IsTime (moment : ℕ) (spelled : List ℕ) : Type 0 where
@@ -81,6 +107,18 @@ pub record IsCount (least end number : ℕ) (spelled : List ℕ) : Type 0 where
   pub enough : least ≤ number
   pub few : number ≤ most_found
   pub is_spelled : spelled ≡ decimal number ++ end ∷ []
+
+-- the digits of which so many were read
+abbrev pub written : Option ℕ → List ℕ
+written None = []
+written (Some number) = decimal number
+
+-- some number from `least` to 4,100 begins with these digits
+pub record BeginsSome (least : ℕ) (digits : List ℕ) : Type 0 where
+  pub number : ℕ
+  pub enough : least ≤ number
+  pub few : number ≤ most_found
+  pub begins : Extends digits (decimal number)
 
 -- a text with so many errors and characters
 pub record IsTextOf (errors characters : ℕ) (text spelled : List ℕ) : Type 0 where

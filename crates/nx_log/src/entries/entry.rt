@@ -1,6 +1,6 @@
 //! An entry of a log, read back.
 
-ghost use Rattle.std.specs.Prelude.{◌≡◌, ◌≢◌, ◌↔◌, ℕ, List, ◌++◌, ◌≤◌, All, IfErr, IfNone, IfOk, IfSome, IsTrue};
+ghost use Rattle.std.specs.Prelude.{◌≡◌, ◌≢◌, ◌↔◌, ℕ, ◌+◌, ◌<◌, ◌≤◌, List, [], ◌∷◌, ◌++◌, IfErr, IfNone, IfOk, IfSome, IsTrue};
 ghost use Rattle.nx_envelope.specs.Copies.{errors_of};
 ghost use Rattle.nx_copies.specs.copies.Shares.{MarkedCopy};
 ghost use Rattle.nx_log.specs.Entries.{IsWholeEntry};
@@ -8,9 +8,9 @@ ghost use Rattle.nx_log.specs.Logged.{IsLoggedAs, is_text_byte as the_is_text_by
 ghost use Rattle.nx_log.specs.View.{IsViewOf};
 ghost use Rattle.nx_log.specs.private.Stages.{FromName, IsTextOf, Lacks, Spells};
 
-use crate::entries::beginning::is_part_of_text;
-use crate::entries::head::{LoggedHead, head_at, literal_at};
+use crate::entries::head::{LoggedHead, head_at};
 use crate::entries::lack::Lack;
+use crate::entries::pieces::literal_at;
 use nx_code::char_to_code;
 use nx_copies::entry_end;
 
@@ -43,7 +43,7 @@ pub fn entry_at(bytes: &[u8]) -> Option<EntryView>
 
 /// The logged entry with which the bytes begin, whatever stands behind it; or what they lack of
 /// one.
-pub(crate) fn read_entry(bytes: &[u8]) -> Result<EntryView, Lack>
+pub(crate) fn read_entry(bytes: &[u8]) -> Result<EntryView, Lack<'_>>
     ensures found { IfOk result (IsViewOf bytes.now) }
     ensures lacks { IfErr result (λ lack. Lacks FromName bytes.now lack) }
 {
@@ -59,18 +59,41 @@ pub(crate) fn read_entry(bytes: &[u8]) -> Result<EntryView, Lack>
 
 /// The text of so many errors and characters with which the bytes begin, and what stands behind; or
 /// what they lack of one. The errors are at most the characters.
-fn text_at(bytes: &[u8], errors: u16, characters: u16) -> Result<(&[u8], &[u8]), Lack>
+fn text_at(bytes: &[u8], errors: u16, characters: u16) -> Result<(&[u8], &[u8]), Lack<'_>>
     requires { errors ≤ characters }
     ensures found { IfOk result (λ found. (bytes.now ≡ found.0.now ++ found.1.now)
         × IsTextOf errors characters found.0.now found.0.now) }
     ensures lacks { IfErr result (λ lack.
         Lacks (Spells (IsTextOf errors characters)) bytes.now lack) }
 {
-    let (errors, characters) = (usize::from(errors), usize::from(characters));
-    match bytes.split_at_checked(characters) {
-        Some((text, rest)) if is_text(text) && errors_in(text) == errors => Ok((text, rest)),
-        Some(_) => Err(Lack::Broken),
-        None => Err(Lack::of(is_part_of_text(bytes, errors, characters))),
+    let len = usize::from(characters);
+    let (mut errors, mut characters) = (usize::from(errors), len);
+    let mut rest = bytes;
+    while characters > 0 {
+        let Some((byte, behind)) = rest.split_first() else {
+            return Err(Lack::Unfinished);
+        };
+        if !fits_text(*byte, errors, characters) {
+            return Err(Lack::Broken(rest));
+        }
+        errors -= usize::from(*byte == b'*');
+        characters -= 1;
+        rest = behind;
+    }
+    Ok((&bytes[..len], rest))
+}
+
+/// Whether a byte may stand where a text lacks so many errors, and no fewer characters.
+#[tactic(auto, unfolding(crate::specs::Logged::is_text_byte))]
+fn fits_text(byte: u8, errors: usize, characters: usize) -> bool
+    requires { errors ≤ characters }
+    ensures { IsTrue result ↔ (IsTrue (the_is_text_byte byte)
+        × (errors_of (byte ∷ []) ≤ errors) × (errors < errors_of (byte ∷ []) + characters)) }
+{
+    if byte == b'*' {
+        errors > 0
+    } else {
+        errors < characters && is_text_byte(byte)
     }
 }
 
@@ -89,24 +112,10 @@ pub(crate) fn whole_entry(bytes: &[u8]) -> EntryView
     }
 }
 
-/// Whether each byte may stand in a text.
-pub(crate) fn is_text(text: &[u8]) -> bool
-    ensures { IsTrue result ↔ All (λ byte. IsTrue (the_is_text_byte byte)) text.now }
-{
-    text.iter().all(|byte| is_text_byte(*byte))
-}
-
 /// Whether a byte may stand in a text: it is a character of the code, or an asterisk.
 #[tactic(auto, unfolding(crate::specs::Logged::is_text_byte))]
 fn is_text_byte(byte: u8) -> bool
     ensures { result ≡ the_is_text_byte byte }
 {
     char_to_code(byte).is_some() || byte == b'*'
-}
-
-/// How many asterisks a text has.
-pub(crate) fn errors_in(text: &[u8]) -> usize
-    ensures { result ≡ errors_of text.now }
-{
-    text.iter().filter(|byte| **byte == b'*').count()
 }

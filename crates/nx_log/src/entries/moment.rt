@@ -1,11 +1,14 @@
 //! The moment that a civil time shows.
 
-ghost use Rattle.std.specs.Prelude.{◌≡◌, ℕ, pos, ◌+◌, ◌*◌, ◌/◌, ◌%◌, ◌^◌, ◌<◌, ◌≤◌, length, slice_index, IfNone, IfSome, Some};
+ghost use Rattle.std.specs.Prelude.{◌≡◌, ℕ, pos, ◌+◌, ◌*◌, ◌<◌, ◌≤◌, List, ◌++◌, IfErr, IfNone, IfOk, IfSome};
 ghost use Rattle.jiff_core.specs.Calendar.{IsCivilDate, days_from_civil};
 ghost use Rattle.nx_envelope.specs.Moment.{IsShownAs, last_moment};
+ghost use Rattle.nx_log.specs.private.Stages.{IsCivilTime, Lacks, Spells, year_from};
 
+use crate::entries::lack::Lack;
+use crate::entries::pieces::number_at;
 use jiff::civil::Date;
-use nx_envelope::{CIVIL_LEN, civil};
+use jiff_core::civil::days_in_month;
 
 /// The seconds of a day, of an hour and of a minute.
 const DAY: u64 = 86_400;
@@ -22,76 +25,50 @@ pub fn moment_of(text: &[u8]) -> Option<u64>
     ensures none { IfNone result ((moment : ℕ) → moment ≤ last_moment
         → ¬ IsShownAs moment text.now) }
 {
-    if text.len() != CIVIL_LEN {
-        return None;
-    }
-    let day = day_in(text)?;
-    let second = second_in(text)?;
-    let moment = day * DAY + second;
-    let again = civil(moment)?;
-    if again.as_slice() == text {
-        Some(moment)
-    } else {
-        None
-    }
-}
-
-/// The day number of the date in a text of 19 bytes, as a civil time has, 0 for 1970-01-01.
-fn day_in(text: &[u8]) -> Option<u64>
-    requires { length text.now ≡ 19 }
-    ensures found { (moment : ℕ) → moment ≤ last_moment → IsShownAs moment text.now
-        → result ≡ Some (moment / 86400) }
-    ensures below { IfSome result (λ day. day < 2 ^ 31) }
-{
-    let century = number_at(text, 0)?;
-    let year = number_at(text, 2)?;
-    let month = number_at(text, 5)?;
-    let day = number_at(text, 8)?;
-    day_number(century, year, month, day)
-}
-
-/// The day number of a date, 0 for 1970-01-01: of the first two digits of its year, the last two,
-/// its month and its day, each below 100. `None` where the calendar has no such date, and before
-/// 1970.
-fn day_number(century: u8, year: u8, month: u8, day: u8) -> Option<u64>
-    requires year { (century < 100) × (year < 100) }
-    requires day { (month < 100) × (day < 100) }
-    ensures found { (n : ℕ) → IsCivilDate (pos (century * 100 + year)) month day
-        → days_from_civil (pos (century * 100 + year)) month day ≡ pos n → result ≡ Some n }
-    ensures below { IfSome result (λ day. day < 2 ^ 31) }
-{
-    let year = u16::from(century) * 100 + u16::from(year);
-    let Ok(date) = Date::new(year as i16, month as i8, day as i8) else {
+    let Ok((moment, rest)) = civil_at(text) else {
         return None;
     };
-    u64::try_from(date.to_plain().to_unix_epoch_day()).ok()
+    if rest.is_empty() { Some(moment) } else { None }
 }
 
-/// The seconds of the time of day in a text of 19 bytes, as a civil time has.
-fn second_in(text: &[u8]) -> Option<u64>
-    requires { length text.now ≡ 19 }
-    ensures found { (moment : ℕ) → IsShownAs moment text.now → result ≡ Some (moment % 86400) }
-    ensures below { IfSome result (λ second. second < 2 ^ 31) }
+/// The moment of the civil time with which the bytes begin, and what stands behind; or what they
+/// lack of a civil time.
+pub(crate) fn civil_at(bytes: &[u8]) -> Result<(u64, &[u8]), Lack<'_>>
+    ensures found { IfOk result (λ found. (civil : List ℕ) × IsShownAs found.0 civil
+        × (bytes.now ≡ civil ++ found.1.now)) }
+    ensures in_range { IfOk result (λ found. found.0 ≤ last_moment) }
+    ensures lacks { IfErr result (λ lack. Lacks (Spells IsCivilTime) bytes.now lack) }
 {
-    let hour = number_at(text, 11)?;
-    let minute = number_at(text, 14)?;
-    let second = number_at(text, 17)?;
-    Some(u64::from(hour) * HOUR + u64::from(minute) * MINUTE + u64::from(second))
+    let (century, rest) = number_at(bytes, b"", 19, 29)?;
+    let (year, rest) = number_at(rest, b"", first_year(century), 99)?;
+    let (month, rest) = number_at(rest, b"-", 1, 12)?;
+    let year = u16::from(century) * 100 + u16::from(year);
+    let (day, rest) = number_at(rest, b"-", 1, days_in_month(year as i16, month))?;
+    let (hour, rest) = number_at(rest, b" ", 0, 23)?;
+    let (minute, rest) = number_at(rest, b":", 0, 59)?;
+    let (second, rest) = number_at(rest, b":", 0, 59)?;
+    let minutes = u64::from(hour) * HOUR + u64::from(minute) * MINUTE;
+    let moment = day_number(year, month, day) * DAY + minutes + u64::from(second);
+    Ok((moment, rest))
 }
 
-/// The number below 100 whose two digits stand at that place, if two digits stand there. The text
-/// has two bytes from there on.
-fn number_at(text: &[u8], at: usize) -> Option<u8>
-    requires { at + 2 ≤ length text.now }
-    ensures found { (n : ℕ) → n < 100 → slice_index text.now at ≡ 48 + n / 10
-        → slice_index text.now (at + 1) ≡ 48 + n % 10 → result ≡ Some n }
-    ensures below { IfSome result (λ n. n < 100) }
+/// The first year of a century that has moments in range, by its last two digits: 1970 is the first
+/// of all.
+fn first_year(century: u8) -> u8
+    ensures { result ≡ year_from century }
 {
-    let tens = text[at];
-    let units = text[at + 1];
-    if tens.is_ascii_digit() && units.is_ascii_digit() {
-        Some((tens - b'0') * 10 + (units - b'0'))
-    } else {
-        None
-    }
+    if century == 19 { 70 } else { 0 }
+}
+
+/// The day number of a date of the calendar, 0 for 1970-01-01, from when on it is.
+fn day_number(year: u16, month: u8, day: u8) -> u64
+    requires date { IsCivilDate (pos year) month day }
+    requires year { (1970 ≤ year) × (year ≤ 2999) }
+    ensures value { days_from_civil (pos year) month day ≡ pos result }
+    ensures below { result ≤ 376_199 }
+{
+    let Ok(date) = Date::new(year as i16, month as i8, day as i8) else {
+        unreachable!()
+    };
+    date.to_plain().to_unix_epoch_day() as u64
 }

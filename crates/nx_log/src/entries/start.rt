@@ -1,9 +1,6 @@
 //! What stands where an entry is to begin.
 
 ghost use Rattle.nx_log.specs.Starts.{StartsAs};
-ghost use Rattle.nx_log.specs.private.Stages.{FromName, Lacks};
-ghost use Rattle.nx_log.specs.declared.entries.lack.Lack.TheVariants.{Broken as LackBroken};
-ghost use Rattle.nx_log.specs.declared.entries.start.EntryStart.TheVariants.{Broken};
 
 use crate::entries::entry::read_entry;
 use crate::entries::lack::Lack;
@@ -27,25 +24,6 @@ pub fn entry_start(bytes: &[u8]) -> EntryStart
     match read_entry(bytes) {
         Ok(view) => EntryStart::Whole(view.len),
         Err(Lack::Unfinished) => EntryStart::Unfinished,
-        Err(Lack::Broken) => EntryStart::Broken(broken_at(bytes)),
+        Err(Lack::Broken(left)) => EntryStart::Broken(bytes.len() - left.len()),
     }
-}
-
-/// How many of the bytes are the beginning of an entry: with one more they aren't, whatever comes
-/// behind them.
-fn broken_at(bytes: &[u8]) -> usize
-    requires { Lacks FromName bytes.now LackBroken }
-    ensures { StartsAs bytes.now (Broken result) }
-{
-    let mut good = 0;
-    let mut bad = bytes.len();
-    while bad - good > 1 {
-        let middle = good + (bad - good) / 2;
-        match read_entry(&bytes[..middle]) {
-            Err(Lack::Unfinished) => good = middle,
-            Err(Lack::Broken) => bad = middle,
-            Ok(_) => bad = middle,
-        }
-    }
-    good
 }

@@ -1,11 +1,7 @@
 -- Lists that two splits of one list compare.
 use Rattle.std.proofs.Common.{◌≡◌, ◌≢◌, ◌≤◌, ◌⊎◌, inl, inr, ℕ, List, [], ◌∷◌, ◌++◌, get_or, drop, length, ap, sym, ◌∙◌, refl, arith, append-nil}
 use Rattle.std.proofs.lemmas.List.{length-append}
-
--- the second list is the first and then more
-pub record Extends (front all : List ℕ) : Type 0 where
-  pub more : List ℕ
-  pub is : all ≡ front ++ more
+use Rattle.nx_log.specs.private.Stages.{Extends}
 
 -- of two lists that begin one list, one begins the other
 pub one_extends : (xs ys x y : List ℕ) → xs ++ x ≡ ys ++ y → Extends xs ys ⊎ Extends ys xs
@@ -23,14 +19,27 @@ one_extends (a ∷ xs) (b ∷ ys) x y e =
           (record { more = f.more; is = ap (λ l. a ∷ l) f.is ∙ ap (λ h. h ∷ (ys ++ f.more)) here })
     ]
 
+pub no_elements : (xs : List ℕ) → length xs ≡ 0 → xs ≡ []
+no_elements [] h = refl
+no_elements (x ∷ xs) h = absurd (omega (arith, h))
+
+-- so does one that isn't longer
+pub shorter_first : (xs ys x y : List ℕ) → length xs ≤ length ys → xs ++ x ≡ ys ++ y → Extends xs ys
+shorter_first xs ys x y short e = elim (one_extends xs ys x y e) [
+  | inl f ↦ f
+  | inr f ↦
+      let long = ap length f.is ∙ length-append ys f.more in
+      record {
+        more = [];
+        is = sym (append-nil ys) ∙ ap (λ l. ys ++ l) (sym (no_elements f.more (omega arith)))
+            ∙ sym f.is ∙ sym (append-nil xs);
+      }
+]
+
 -- a list that is not empty has elements
 pub some_elements : (xs : List ℕ) → xs ≢ [] → 1 ≤ length xs
 some_elements [] h = absurd (h refl)
 some_elements (x ∷ xs) h = omega arith
-
-pub no_elements : (xs : List ℕ) → length xs ≡ 0 → xs ≡ []
-no_elements [] h = refl
-no_elements (x ∷ xs) h = absurd (omega (arith, h))
 
 -- what ends with an element isn't empty
 pub ends_with_one : (xs : List ℕ) (x : ℕ) → xs ++ x ∷ [] ≢ []
@@ -40,18 +49,10 @@ ends_with_one xs x e = omega (arith, ap length e, length-append xs (x ∷ []))
 pub part_of_longer : (xs bytes more : List ℕ) (x : ℕ) → xs ++ x ∷ [] ≡ bytes ++ more → more ≢ []
     → Extends bytes xs
 part_of_longer xs bytes more x e some =
-    elim (one_extends xs bytes (x ∷ []) more e) [
-      | inr f ↦ f
-      | inl f ↦
-          let whole = ap length e in
-          let left = length-append xs (x ∷ []) in
-          let right = length-append bytes more in
-          let front = ap length f.is ∙ length-append xs f.more in
-          let has = some_elements more some in
-          let none : f.more ≡ [] = no_elements f.more (omega arith) in
-          record {
-            more = [];
-            is = sym (append-nil xs) ∙ ap (λ l. xs ++ l) (sym none) ∙ sym f.is
-                ∙ sym (append-nil bytes);
-          }
-    ]
+    let has = some_elements more some in
+    shorter_first bytes xs more (x ∷ []) (omega (
+      arith,
+      ap length e,
+      length-append xs (x ∷ []),
+      length-append bytes more,
+    )) (sym e)

@@ -1,6 +1,6 @@
 -- An entry stage by stage: what bytes lack of one, by the piece with which they begin.
-use Rattle.std.proofs.Common.{◌≡◌, ◌≢◌, ◌⊎◌, inl, inr, ℕ, ◌+◌, ◌-◌, ◌<◌, ◌≤◌, Bool, true, List, [], ◌∷◌, ◌++◌, length, drop, ap, sym, ◌∙◌, refl, subst, arith, lit<, lit≤, append_assoc, cond, ◌*◌}
-use Rattle.std.specs.Prelude.{◌↔◌, ◌==◌, All, IsTrue, decimal, replicate}
+use Rattle.std.proofs.Common.{◌≡◌, ◌⊎◌, inl, inr, ℕ, ◌+◌, ◌-◌, ◌<◌, ◌≤◌, true, List, [], ◌∷◌, ◌++◌, length, drop, ap, sym, ◌∙◌, refl, subst, arith, lit<, lit≤, append_assoc, cond, ◌*◌}
+use Rattle.std.specs.Prelude.{◌==◌, All, IsTrue, decimal, replicate}
 use Rattle.std.proofs.lemmas.List.{length-append, length-replicate}
 use Rattle.std.proofs.lemmas.List.Folds.{sum_by-replicate}
 use Rattle.std.proofs.lemmas.List.Sums.{sum_by-append}
@@ -18,197 +18,70 @@ use Rattle.nx_fec.specs.declared.air_files.channel.Channel.{Channel}
 use Rattle.nx_fec.specs.declared.air_files.channel.Channel.TheVariants.{Zero}
 use Rattle.nx_copies.specs.copies.Log.{channel_mark, how_name, missing_newline}
 use Rattle.nx_log.specs.Logged.{is_text_byte}
-use Rattle.nx_log.specs.private.Stages.{FromCharacters, FromEnd, FromErrors, FromMark, FromName, FromNewline, FromText, FromTime, IsBehindText, IsCount, IsEnd, IsMark, IsName, IsNewline, IsPartOf, IsTextOf, IsTime, Lacks, Spells, lack_of}
+use Rattle.nx_log.specs.private.Stages.{FromCharacters, FromEnd, FromErrors, FromMark, FromName, FromNewline, FromText, FromTime, IsBehindText, IsCount, IsEnd, IsMark, IsName, IsNewline, IsTextOf, IsTime, CanEnd, Lacks, Spells}
 use Rattle.nx_log.proofs.lemmas.texts.Moments.{same_time}
-use Rattle.nx_log.proofs.lemmas.beginnings.Dates.{first_ending, first_shown}
+use Rattle.nx_log.proofs.lemmas.beginnings.Heads.{identity_of, some_letter}
+use Rattle.nx_log.proofs.lemmas.beginnings.Texts.{text_goes_on}
+use Rattle.nx_log.proofs.lemmas.beginnings.Times.{some_time}
 use Rattle.nx_log.specs.declared.entries.head.LoggedHead.{LoggedHead}
 use Rattle.nx_log.specs.declared.entries.lack.Lack.{Lack}
 use Rattle.nx_log.specs.declared.entries.lack.Lack.TheVariants.{Unfinished, Broken}
 use Rattle.nx_log.specs.private.Heads.{BeginsWithHead, IsHead}
-use Rattle.nx_log.proofs.lemmas.beginnings.Joins.{lacks_behind, lacks_piece, lacks_same, lacks_within}
+use Rattle.nx_log.proofs.lemmas.beginnings.Joins.{join, lacks_behind, lacks_same, lacks_within, some_joined}
 use Rattle.nx_log.proofs.lemmas.reading.Heads.{characters_and, errors_and, how_and, mark_and, time_and_rest}
 use Rattle.nx_log.proofs.lemmas.reading.Pieces.{same_mark, same_name, same_decimal, same_text}
 
 -- ---- each stage can be begun, so that a part of a piece can go on
 
--- one for an asterisk
-abbrev one_of : ℕ → ℕ
-one_of byte = cond (byte == asterisk) 1 0
-
-pub errors_joined : (xs ys : List ℕ) → errors_of (xs ++ ys) ≡ errors_of xs + errors_of ys
-errors_joined xs ys = sum_by-append one_of xs ys
-
-asterisks_all : (k : ℕ) → errors_of (replicate k asterisk) ≡ k
-asterisks_all k = let e : errors_of (replicate k asterisk) ≡ k * 1 =
-    sum_by-replicate one_of k asterisk in omega (arith, e)
-
-newlines_none : (k : ℕ) → errors_of (replicate k newline) ≡ 0
-newlines_none k = let e : errors_of (replicate k newline) ≡ k * 0 =
-    sum_by-replicate one_of k newline in omega (arith, e)
-
-asterisk_is : is_text_byte asterisk ≡ true
-unfolding is_text_byte is_in_code characters
-asterisk_is = refl
-
-newline_is : is_text_byte newline ≡ true
-unfolding is_text_byte is_in_code characters
-newline_is = refl
-
--- a text goes on to so many errors and characters
-pub text_goes_on : (bytes : List ℕ) (errors characters left lacking : ℕ)
-    → All (λ byte. IsTrue (is_text_byte byte)) bytes → errors_of bytes + lacking ≡ errors
-    → length bytes + left ≡ characters → lacking ≤ left
-    → (more : List ℕ) × (length more ≡ left)
-    × IsTextOf errors characters (bytes ++ more) (bytes ++ more)
-text_goes_on bytes errors characters left lacking letters found have fits =
-    let stars = replicate lacking asterisk in
-    let lines = replicate (left - lacking) newline in
-    let count = errors_joined bytes (stars ++ lines) in
-    let both = errors_joined stars lines in
-    let here = asterisks_all lacking in
-    let rest = newlines_none (left - lacking) in
-    let whole = length-append bytes (stars ++ lines) in
-    let parts = length-append stars lines in
-    let stars_are = length-replicate lacking asterisk in
-    let lines_are = length-replicate (left - lacking) newline in
-    let is = λ (byte : ℕ). IsTrue (is_text_byte byte) in (
-      stars ++ lines,
-      omega (arith, parts, stars_are, lines_are),
-      record {
-        letters = All-append is bytes (stars ++ lines) letters
-            (All-append is stars lines (All-replicate is lacking asterisk asterisk_is)
-            (All-replicate is (left - lacking) newline newline_is));
-        has_errors = omega (arith, count, both, here, rest);
-        has_characters = omega (arith, whole, parts, stars_are, lines_are);
-        is_spelled = refl;
-      },
-    )
-
 some_text : (errors characters : ℕ) → errors ≤ characters
     → (rest : List ℕ) × FromText errors characters rest
 some_text errors characters enough =
     let text = text_goes_on [] errors characters characters errors
-    (All-nil (λ byte. IsTrue (is_text_byte byte))) (omega arith) (omega arith) enough in (
-      text.0 ++ (missing_newline text.0 ++ newline ∷ []),
-      record {
-        piece = text.0;
-        spelled = text.0;
-        rest = missing_newline text.0 ++ newline ∷ [];
-        is_piece = text.2;
-        is_rest = refl;
-        split = refl;
-      },
-    )
+    (All-nil (λ byte. IsTrue (is_text_byte byte))) (omega arith) (omega arith) enough in
+    some_joined (IsTextOf errors characters) IsBehindText text.0 text.0 text.2
+    (missing_newline text.0 ++ newline ∷ [], refl)
 
 some_newline : (errors characters : ℕ) → errors ≤ characters
     → (rest : List ℕ) × FromNewline errors characters rest
 some_newline errors characters enough =
-    let text = some_text errors characters enough in (
-      newline ∷ text.0,
-      record {
-        piece = tt;
-        spelled = newline ∷ [];
-        rest = text.0;
-        is_piece = refl;
-        is_rest = text.1;
-        split = refl;
-      },
-    )
+    some_joined IsNewline (λ none. FromText errors characters) tt (newline ∷ []) refl
+    (some_text errors characters enough)
 
 some_characters : (errors : ℕ) → errors ≤ 4100 → (rest : List ℕ) × FromCharacters errors rest
 some_characters errors few =
-    let text = some_newline errors errors (omega arith) in (
-      (decimal errors ++ 93 ∷ []) ++ text.0,
-      record {
-        piece = errors;
-        spelled = decimal errors ++ 93 ∷ [];
-        rest = text.0;
-        is_piece = record { enough = omega arith; few = few; is_spelled = refl };
-        is_rest = text.1;
-        split = refl;
-      },
-    )
+    some_joined (IsCount errors 93) (FromNewline errors) errors (decimal errors ++ 93 ∷ [])
+    (record { enough = omega arith; few = few; is_spelled = refl })
+    (some_newline errors errors (omega arith))
 
 some_errors : (rest : List ℕ) × FromErrors rest
-some_errors =
-    let behind = some_characters 0 (lit≤ tt) in (
-      (decimal 0 ++ 47 ∷ []) ++ behind.0,
-      record {
-        piece = 0;
-        spelled = decimal 0 ++ 47 ∷ [];
-        rest = behind.0;
-        is_piece = record { enough = lit≤ tt; few = lit≤ tt; is_spelled = refl };
-        is_rest = behind.1;
-        split = refl;
-      },
-    )
+some_errors = some_joined (IsCount 0 47) FromCharacters 0 (decimal 0 ++ 47 ∷ [])
+    (record { enough = lit≤ tt; few = lit≤ tt; is_spelled = refl }) (some_characters 0 (lit≤ tt))
 
 some_end : (rest : List ℕ) × FromEnd rest
-some_end = (
-  (how_name Full ++ 32 ∷ []) ++ some_errors.0,
-  record {
-    piece = Full;
-    spelled = how_name Full ++ 32 ∷ [];
-    rest = some_errors.0;
-    is_piece = refl;
-    is_rest = some_errors.1;
-    split = refl;
-  },
-)
-
-some_time : (moment : ℕ) (spelled : List ℕ) → IsTime moment spelled
-    → (rest : List ℕ) × FromTime rest
-some_time moment spelled is = (
-  spelled ++ some_end.0,
-  record {
-    piece = moment;
-    spelled = spelled;
-    rest = some_end.0;
-    is_piece = is;
-    is_rest = some_end.1;
-    split = refl;
-  },
-)
+some_end =
+    some_joined IsEnd (λ how. FromErrors) Full (how_name Full ++ 32 ∷ []) refl some_errors
 
 first_time : (rest : List ℕ) × FromTime rest
 first_time =
-    some_time first_shown.moment (first_ending ++ 32 ∷ []) (record {
-      civil = first_ending;
-      in_range = first_shown.in_range;
-      shown = first_shown.shown;
+    let time = some_time.1.1 in
+    some_joined IsTime (λ moment. FromEnd) some_time.1.0 (some_time.0 ++ 32 ∷ []) (record {
+      civil = some_time.0;
+      in_range = time.in_range;
+      shown = time.shown;
       is_spelled = refl;
-    })
+    }) some_end
 
 some_mark : (rest : List ℕ) × FromMark rest
-some_mark = (
-  (channel_mark Zero ++ 32 ∷ []) ++ first_time.0,
-  record {
-    piece = Zero;
-    spelled = channel_mark Zero ++ 32 ∷ [];
-    rest = first_time.0;
-    is_piece = refl;
-    is_rest = first_time.1;
-    split = refl;
-  },
-)
-
-some_letter : Letter
-some_letter = record { byte = 65; in_range = (lit≤ tt, lit≤ tt) }
+some_mark =
+    some_joined IsMark (λ channel. FromTime) Zero (channel_mark Zero ++ 32 ∷ []) refl first_time
 
 -- no bytes are the beginning of an entry
-pub nothing_lacks : Lacks FromName [] Unfinished
+pub nothing_lacks : CanEnd FromName []
 nothing_lacks =
-    let identity : Identity = record
-    { b1 = some_letter; b2 = some_letter; number = 0; two_digits = lit≤ tt } in (
+    let identity = identity_of some_letter some_letter 0 (lit≤ tt) in (
       (91 ∷ identity_bytes identity) ++ some_mark.0,
-      record {
-        piece = identity;
-        spelled = 91 ∷ identity_bytes identity;
-        rest = some_mark.0;
-        is_piece = refl;
-        is_rest = some_mark.1;
-        split = refl;
-      },
+      join IsName (λ i. FromMark) identity (91 ∷ identity_bytes identity) some_mark.0 refl
+          some_mark.1,
       λ n. omega (arith, ap length n),
     )
 
@@ -219,89 +92,11 @@ pub with_end : (bytes piece rest : List ℕ) (x : ℕ) → bytes ≡ piece ++ (x
     → bytes ≡ (piece ++ x ∷ []) ++ rest
 with_end bytes piece rest x e = e ∙ sym (append_assoc piece (x ∷ []) rest)
 
-without_end : (bytes piece spelled rest : List ℕ) (x : ℕ) → spelled ≡ piece ++ x ∷ []
-    → bytes ≡ spelled ++ rest → bytes ≡ piece ++ (x ∷ rest)
-without_end bytes piece spelled rest x is e =
-    e ∙ ap (λ l. l ++ rest) is ∙ append_assoc piece (x ∷ []) rest
-
 -- two spellings with an end, of which one list begins with both
 both_ends : (piece other t x y : List ℕ) (c d : ℕ) → t ≡ other ++ d ∷ []
     → (piece ++ c ∷ []) ++ x ≡ t ++ y → piece ++ (c ∷ x) ≡ other ++ (d ∷ y)
 both_ends piece other t x y c d is e =
     sym (append_assoc piece (c ∷ []) x) ∙ e ∙ ap (λ l. l ++ y) is ∙ append_assoc other (d ∷ []) y
-
--- what is lacked of a piece with which the bytes don't begin
-module _ (bytes : List ℕ) (b : Bool) where
-  pub lacks_name : ((identity : Identity) (more : List ℕ)
-      → bytes ≢ (91 ∷ identity_bytes identity) ++ more) → (IsTrue b ↔ IsPartOf IsName bytes)
-      → Lacks (Spells IsName) bytes (lack_of b)
-  lacks_name none tells =
-      lacks_piece IsName bytes b
-      (λ identity t more is e. none identity more (e ∙ ap (λ l. l ++ more) is)) tells
-
-  pub lacks_mark : ((channel : Channel) (more : List ℕ)
-      → bytes ≢ channel_mark channel ++ (32 ∷ more)) → (IsTrue b ↔ IsPartOf IsMark bytes)
-      → Lacks (Spells IsMark) bytes (lack_of b)
-  lacks_mark none tells =
-      lacks_piece IsMark bytes b
-      (λ channel t more is e. none channel more
-      (without_end bytes (channel_mark channel) t more 32 is e)) tells
-
-  pub lacks_time : ((moment : ℕ) (civil more : List ℕ) → moment ≤ last_moment
-      → IsShownAs moment civil → bytes ≢ civil ++ (32 ∷ more)) → (IsTrue b ↔ IsPartOf IsTime bytes)
-      → Lacks (Spells IsTime) bytes (lack_of b)
-  lacks_time none tells =
-      lacks_piece IsTime bytes b
-      (λ moment t more is e. none moment is.civil more is.in_range is.shown
-      (without_end bytes is.civil t more 32 is.is_spelled e)) tells
-
-  pub lacks_end : ((how : How) (more : List ℕ) → bytes ≢ how_name how ++ (32 ∷ more))
-      → (IsTrue b ↔ IsPartOf IsEnd bytes) → Lacks (Spells IsEnd) bytes (lack_of b)
-  lacks_end none tells =
-      lacks_piece IsEnd bytes b
-      (λ how t more is e. none how more (without_end bytes (how_name how) t more 32 is e)) tells
-
-  pub lacks_count : (least end : ℕ)
-      → ((n : ℕ) (more : List ℕ) → least ≤ n → n ≤ 4100 → bytes ≢ decimal n ++ (end ∷ more))
-      → (IsTrue b ↔ IsPartOf (IsCount least end) bytes)
-      → Lacks (Spells (IsCount least end)) bytes (lack_of b)
-  lacks_count least end none tells =
-      lacks_piece (IsCount least end) bytes b
-      (λ n t more is e. none n more is.enough is.few
-      (without_end bytes (decimal n) t more end is.is_spelled e)) tells
-
-  pub lacks_text : (errors n : ℕ) → length bytes < n
-      → (IsTrue b ↔ IsPartOf (IsTextOf errors n) bytes)
-      → Lacks (Spells (IsTextOf errors n)) bytes (lack_of b)
-  lacks_text errors n short tells =
-      lacks_piece (IsTextOf errors n) bytes b
-      (λ text t more is e.
-      let long = ap length e ∙ length-append t more in
-      let whole = ap length is.is_spelled ∙ is.has_characters in
-      omega (arith, long, whole)) tells
-
--- fewer characters than errors are none
-pub too_few : (bytes rest : List ℕ) (least end n k : ℕ) (more : List ℕ)
-    → (end < 48) ⊎ (57 < end) → n < least → n ≤ 4100 → bytes ≡ decimal n ++ (end ∷ rest)
-    → least ≤ k → k ≤ 4100 → bytes ≢ decimal k ++ (end ∷ more)
-too_few bytes rest least end n k more no_digit less few e enough small f =
-    let one = same_decimal n k end rest more (omega arith) (omega arith) no_digit (sym e ∙ f) in
-    omega (arith, one.piece)
-
--- so many first bytes are no such text
-pub no_text : (bytes text rest : List ℕ) (errors n : ℕ) → bytes ≡ text ++ rest → length text ≡ n
-    → ¬ (All (λ byte. IsTrue (is_text_byte byte)) text × (errors_of text ≡ errors))
-    → Lacks (Spells (IsTextOf errors n)) bytes Broken
-no_text bytes text rest errors n e long never =
-    λ more spelled y is f.
-    let piece = is.1 in
-    let one = same_text text is.0 (rest ++ more) y (long ∙ sym piece.has_characters)
-    (sym (append_assoc text rest more) ∙ ap (λ l. l ++ more) (sym e) ∙ f
-    ∙ ap (λ l. l ++ y) piece.is_spelled) in
-    never (
-      subst (All (λ byte. IsTrue (is_text_byte byte))) (sym one.piece) piece.letters,
-      ap errors_of one.piece ∙ piece.has_errors,
-    )
 
 -- ---- the stages: what is lacked of an entry from a piece on
 

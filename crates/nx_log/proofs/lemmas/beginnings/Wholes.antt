@@ -1,19 +1,21 @@
 -- All of an entry, by its pieces and by what it says.
-use Rattle.std.proofs.Common.{◌≡◌, ◌≢◌, ℕ, List, [], ◌∷◌, ◌++◌, take, drop, ap, length, sym, ◌∙◌, refl, arith, append-nil, append_assoc}
+use Rattle.std.proofs.Common.{◌≡◌, ◌≢◌, ℕ, ◌+◌, ◌-◌, List, [], ◌∷◌, ◌++◌, take, ap, length, subst, sym, ◌∙◌, refl, arith, append-nil, append_assoc}
 use Rattle.std.specs.Prelude.{◌==◌, decimal}
 use Rattle.std.proofs.lemmas.List.Sums.{count_by-le-length}
 use Rattle.nx_code.specs.Reading.{asterisk}
-use Rattle.std.proofs.lemmas.List.{length-append, take-append-drop}
+use Rattle.std.proofs.lemmas.List.{length-append, take-append-le, take_all}
 use Rattle.nx_code.specs.Reading.{newline}
 use Rattle.nx_envelope.specs.Identity.{identity_bytes}
 use Rattle.nx_copies.specs.copies.Log.{channel_mark, how_name, missing_newline}
 use Rattle.nx_copies.specs.copies.Shares.{MarkedCopy}
 use Rattle.nx_log.specs.Entries.{IsWholeEntry, IsUnfinishedEntry}
 use Rattle.nx_log.specs.Logged.{IsLoggedAs}
+use Rattle.nx_log.specs.Starts.{StartsAs}
+use Rattle.nx_log.specs.declared.entries.start.EntryStart.TheVariants.{Broken as EntryBroken}
 use Rattle.nx_log.specs.View.{copy_said}
 use Rattle.nx_log.specs.declared.entries.head.LoggedHead.{LoggedHead}
 use Rattle.nx_log.specs.private.Heads.{head_and}
-use Rattle.nx_log.specs.private.Stages.{FromName, Lacks}
+use Rattle.nx_log.specs.private.Stages.{BreakOff, CanEnd, FromName, Lacks}
 use Rattle.nx_log.specs.declared.entries.lack.Lack.{Lack}
 use Rattle.nx_log.specs.declared.entries.lack.Lack.TheVariants.{Unfinished, Broken}
 use Rattle.nx_log.proofs.lemmas.beginnings.Lists.{no_elements}
@@ -188,19 +190,36 @@ none_begins bytes Unfinished l one entry more is e =
     (sym (append_assoc entry more l.0) ∙ ap (λ b. b ++ l.0) (sym e)
     ∙ sym (append-nil (bytes ++ l.0)))).rest in
     l.2 (no_elements l.0 (omega (arith, ap length rest, length-append more l.0)))
-none_begins bytes Broken l one entry more is e =
-    l [] entry more (from_entry entry (one, is)) (append-nil bytes ∙ e)
+none_begins bytes (Broken left) l one entry more is e =
+    l.never l.behind entry more (from_entry entry (one, is)) (append_assoc l.front (l.byte ∷ [])
+    l.behind ∙ ap (λ b. l.front ++ b) (sym l.first) ∙ sym l.split ∙ e)
 
-pub unfinished : (bytes : List ℕ) → Lacks FromName bytes Unfinished → IsUnfinishedEntry bytes
+pub unfinished : (bytes : List ℕ) → CanEnd FromName bytes → IsUnfinishedEntry bytes
 unfinished bytes l = (l.0, to_entry (bytes ++ l.0) l.1, l.2)
 
-pub lacks_end : (bytes : List ℕ) → IsUnfinishedEntry bytes → Lacks FromName bytes Unfinished
-lacks_end bytes u = (u.0, from_entry (bytes ++ u.0) u.1, u.2)
-
--- what breaks off begins with no entry, however few of it are taken
-pub none_in_front : (bytes : List ℕ) (n : ℕ) → Lacks FromName bytes Broken → (one : MarkedCopy)
-    (entry more : List ℕ) → IsLoggedAs one entry → take n bytes ≢ entry ++ more
-none_in_front bytes n l one entry more is e =
-    none_begins bytes Broken l one entry (more ++ drop n bytes) is
-    (sym (take-append-drop n bytes) ∙ ap (λ l. l ++ drop n bytes) e
-    ∙ append_assoc entry more (drop n bytes))
+-- where bytes break off, they stop being the beginning of an entry
+pub broken : (bytes left : List ℕ) (n : ℕ) → BreakOff FromName bytes left
+    → n ≡ length bytes - length left → StartsAs bytes (EntryBroken n)
+broken bytes left n b e =
+    let split = ap length b.split ∙ length-append b.front left in
+    let some = ap length b.first in
+    let count : n ≡ length b.front = omega arith in
+    let next = b.front ++ b.byte ∷ [] in
+    let whole : bytes ≡ next ++ b.behind =
+    b.split ∙ ap (λ l. b.front ++ l) b.first ∙ sym (append_assoc b.front (b.byte ∷ []) b.behind) in
+    let long : n + 1 ≡ length next = omega (arith, count, length-append b.front (b.byte ∷ [])) in
+    let front : take n bytes ≡ b.front = ap (λ k. take k bytes) count
+    ∙ ap (take (length b.front)) b.split ∙ take_front b.front left in
+    let behind : take (n + 1) bytes ≡ next = ap (λ k. take k bytes) long
+    ∙ ap (take (length next)) whole ∙ take_front next b.behind in (
+      omega arith,
+      subst IsUnfinishedEntry (sym front) (unfinished b.front b.can),
+      λ entry. b.never [] next [] (from_entry next (subst IsWholeEntry behind entry)) refl,
+      λ part. let u = subst IsUnfinishedEntry behind part in
+          b.never u.0 (next ++ u.0) [] (from_entry (next ++ u.0) u.1)
+          (sym (append-nil (next ++ u.0))),
+    )
+  where
+    take_front : (xs ys : List ℕ) → take (length xs) (xs ++ ys) ≡ xs
+    take_front xs ys =
+        take-append-le (length xs) xs ys (omega arith) ∙ take_all (length xs) xs (omega arith)

@@ -1,37 +1,30 @@
-use Rattle.std.proofs.Common.{◌≡◌, ℕ, List, ◌++◌, ap, arith, drop, subst, sym, ◌∙◌}
-use Rattle.std.specs.List.{IsSplitAt}
+use Rattle.std.proofs.Common.{◌≡◌, ◌-◌, ◌∷◌, [], arith, rules, sym}
 use Rattle.std.proofs.lemmas.Bool.{true≢false}
-use Rattle.std.proofs.lemmas.List.{take-append-drop}
-use Rattle.nx_log.specs.private.Stages.{IsTextOf, Lacks, Spells}
-use Rattle.nx_log.proofs.lemmas.beginnings.Stages.{lacks_text, no_text}
+use Rattle.nx_envelope.specs.Copies.{errors_of}
+use Rattle.std.proofs.lemmas.Grind.{common_steps}
+use Rattle.nx_log.proofs.lemmas.beginnings.Texts.{next_read, text_breaks, text_to_come, text_whole}
 use Rattle.nx_log.proofs.entries.entry.text_at.Goals as goal
-use Rattle.nx_log.proofs.entries.entry.text_at.Goals.{then-is_text+else-errors_in-errors, else-is_text}
 
-split_is : (bytes front back : List ℕ) (k : ℕ) → IsSplitAt bytes k front back
-    → bytes ≡ front ++ back
-split_is bytes front back k split =
-    sym (take-append-drop k bytes) ∙ ap (λ l. l ++ drop k bytes) (sym split.1)
-    ∙ ap (λ l. front ++ l) (sym split.2)
+pub returns-in_default-clause-lacks : goal.returns-in_default-clause-lacks
+returns-in_default-clause-lacks c =
+    text_to_come _ _ _ _ _ _ c.loop-characters.invariant (omega (arith, c.loop-characters-test.true))
+    (first_of (search rules, grind (arith, common_steps)))
 
-pub returns-in-Some-2-clause-lacks : goal.returns-in-Some-2-clause-lacks
-returns-in-Some-2-clause-lacks c =
-    let split = c.in-Some.ensures.cases in
-    no_text c.args.bytes.now c.in-Some.text.now c.in-Some.rest.now c.args.errors
-    c.args.characters
-    (split_is c.args.bytes.now c.in-Some.text.now c.in-Some.rest.now c.from-characters.result
-    split)
-    (split.3 ∙ c.from-characters.ensures)
-    (λ is. elim c.if-is_text.branch [
-      | then-is_text+else-errors_in-errors w ↦ w.if-errors_in-errors.false
-          (w.errors_in.ensures ∙ is.1 ∙ sym c.from-errors.ensures)
-      | else-is_text w ↦ true≢false (sym (c.is_text.ensures.1 is.0) ∙ w.if-is_text.false)
-    ])
+pub returns-then-not-fits_text-clause-lacks : goal.returns-then-not-fits_text-clause-lacks
+returns-then-not-fits_text-clause-lacks c =
+    text_breaks _ _ _ _ _ _ c.loop-characters.invariant c.in-Some.byte.now c.in-Some.behind.now
+    (omega (arith, c.loop-characters-test.true))
+    (first_of (search rules, grind (arith, common_steps)))
+    (λ letter few fits. true≢false (sym (c.if-not-fits_text.ensures.1 (letter, few, fits))))
 
-pub returns-in-None-clause-lacks : goal.returns-in-None-clause-lacks
-returns-in-None-clause-lacks c =
-    let short = c.in-None.ensures.cases in
-    subst (Lacks (Spells (IsTextOf c.args.errors c.args.characters)) c.args.bytes.now)
-    (sym c.of.ensures)
-    (lacks_text c.args.bytes.now c.is_part_of_text.result c.args.errors c.args.characters
-    (omega (arith, c.from-characters.ensures, short))
-    (rw (c.from-errors.ensures, c.from-characters.ensures) at c.is_part_of_text.ensures))
+pub loop-characters-preserved : goal.loop-characters-preserved
+loop-characters-preserved c =
+    let inv = c.loop-characters.invariant in
+    let some = c.loop-characters-test.true in
+    let ok = c.fits_text.ensures.0 c.if-not-fits_text.false in
+    let star : c.from-errors-in-loop-characters.result ≡ errors_of (c.in-Some.byte.now ∷ []) =
+    first_of (grind arith, search rules) in
+    next_read _ _ _ _ _ _ inv c.in-Some.byte.now c.in-Some.behind.now
+    (c.loop-characters.errors - c.from-errors-in-loop-characters.result)
+    (c.loop-characters.characters - 1) (first_of (search rules, grind (arith, common_steps)))
+    ok.0 (omega (arith, ok.1, star)) (omega (arith, some)) (omega (arith, ok.1, ok.2, star, some))

@@ -1,15 +1,9 @@
-use Rattle.std.proofs.Common.{◌≢◌, ℕ, List, ◌∷◌, ◌++◌, arith, rules, subst, sym}
-use Rattle.std.proofs.lemmas.Grind.{common_steps}
-use Rattle.nx_envelope.specs.declared.found.How.{How}
-use Rattle.nx_copies.specs.copies.Log.{how_name}
-use Rattle.nx_log.specs.private.Stages.{IsEnd, Lacks, Spells}
-use Rattle.nx_log.proofs.lemmas.beginnings.Stages.{lacks_end}
+use Rattle.std.proofs.lemmas.Result.{err_from_is_err_and}
+use Rattle.nx_log.proofs.lemmas.beginnings.Heads.{end_lacks}
 use Rattle.nx_log.proofs.entries.head.how_at.Goals as goal
 
-pub returns-in_default-clause-lacks : goal.returns-in_default-clause-lacks
-returns-in_default-clause-lacks c =
-    let none : (how : How) (more : List ℕ)
-    → c.args.bytes.now ≢ how_name how ++ (32 ∷ more) =
-    first_of (search rules, grind (arith, common_steps)) in
-    subst (Lacks (Spells IsEnd) c.args.bytes.now) (sym c.of.ensures)
-    (lacks_end c.args.bytes.now c.is_part_of_end.result none c.is_part_of_end.ensures)
+pub returns-in_err-rest-clause-lacks : goal.returns-in_err-rest-clause-lacks
+returns-in_err-rest-clause-lacks c =
+    let p = err_from_is_err_and c.from_residual.result c.from_residual.ensures.1 in
+    rw p.1 (rw p.2 (end_lacks c.args.bytes.now c.args.bytes.now _ _ _ c.end_begun-how.ensures.name
+    c.end_begun-how.ensures.only c.in_err-rest.ensures.lacks))

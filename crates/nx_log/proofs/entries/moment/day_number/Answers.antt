@@ -1,46 +1,60 @@
-use Rattle.std.proofs.Common.{◌≡◌, ℕ, ◌+◌, ◌*◌, ◌<◌, ◌^◌, true, false, ap, pos, arith, to_z, of_z, w8, w16, w32}
-use Rattle.std.proofs.Common.{◌∙◌}
+use Rattle.std.proofs.Common.{◌≡◌, ℕ, ℤ, ◌≤◌, ◌<◌, ◌^◌, ap, arith, of_z, pos, refl, to_z, w16, w32, w8, ◌∙◌}
 use Rattle.std.proofs.lemmas.Int.{to_z_pos}
-use Rattle.std.proofs.lemmas.Result.{Ok-from_Ok_iff}
-use Rattle.std.specs.Result.{result_ok}
-use Rattle.jiff_core.proofs.SignedLemmas.{signed_arith, back_small}
-use Rattle.jiff_core.specs.Calendar.{IsCivilDate, IsDate}
+use Rattle.jiff_core.proofs.SignedLemmas.{back_small, signed_arith}
+use Rattle.jiff_core.proofs.CalendarLemmas.{days_in_month_bounds}
+use Rattle.jiff_core.specs.Calendar.{IsCivilDate, days_from_civil}
+use Rattle.nx_log.proofs.lemmas.beginnings.Times.{day_in_range}
 use Rattle.nx_log.proofs.entries.moment.day_number.Goals as goal
 
--- a date of the calendar, by the signed numbers of its month and its day
-is_date : (y m d : ℕ) → IsCivilDate (pos y) m d → IsDate (pos y) (pos m) (pos d)
-is_date y m d date =
-    let month = date.1 in
-    let day = date.2 in (
-      date.0,
-      (omega (arith, signed_arith), omega (arith, signed_arith)),
-      (omega (arith, signed_arith), omega (arith, signed_arith)),
+-- what the library says of a date, as an unsigned number
+day_is : (year month day m d : ℕ) (y z : ℤ) → (1970 ≤ year) × (year ≤ 2999)
+    → IsCivilDate (pos year) month day → y ≡ pos year → m ≡ month → d ≡ day
+    → z ≡ days_from_civil y m d
+    → (n : ℕ) × (to_z w32 (of_z w32 z) ≡ pos n) × (days_from_civil (pos year) month day ≡ pos n)
+    × (n ≤ 376_199)
+day_is year month day m d y z range date y_is m_is d_is is =
+    let n = day_in_range year month day range.0 range.1 date in
+    let number : z ≡ pos n.0 = is ∙ rw (y_is, m_is, d_is) n.1 in
+    let few = n.2 in
+    let small : n.0 < 2 ^ 31 = omega arith in (
+      n.0,
+      ap (λ z. to_z w32 (of_z w32 z)) number ∙ back_small w32 (pos n.0) small,
+      n.1,
+      few,
     )
 
-pub returns-in_default-clause-found : goal.returns-in_default-clause-found
-returns-in_default-clause-found c = λ n date is.
-    let year : to_z w16 (c.from.result * 100 + c.from-2.result)
-    ≡ pos (c.args.century * 100 + c.args.year) =
-    to_z_pos w16 _ (omega arith) ∙ ap pos (omega arith) in
-    let month : to_z w8 c.args.month ≡ pos c.args.month = to_z_pos w8 _ (omega arith) in
-    let day : to_z w8 c.args.day ≡ pos c.args.day = to_z_pos w8 _ (omega arith) in
-    let good : false ≡ true =
-    c.in_default.ensures.succeeds.1 (rw (year, month, day) (is_date _ _ _ date)) in
-    cc
-
-pub returns-clause-found : goal.returns-clause-found
-returns-clause-found c = λ n date is.
+pub overflow_cast-result : goal.overflow_cast-result
+overflow_cast-result c =
     let value = c.in-Ok.ensures.value in
-    let year : c.in-Ok.date.year ≡ pos (c.args.century * 100 + c.args.year) =
-    value.0 ∙ to_z_pos w16 _ (omega arith) ∙ ap pos (omega arith) in
-    let pos_month = value.1 ∙ to_z_pos w8 _ (omega arith) in
-    let pos_day = value.2 ∙ to_z_pos w8 _ (omega arith) in
-    let month : c.in-Ok.date.month ≡ c.args.month = omega (arith, signed_arith, pos_month) in
-    let day : c.in-Ok.date.day ≡ c.args.day = omega (arith, signed_arith, pos_day) in
-    let number : c.to_unix_epoch_day.result ≡ pos n =
-    c.to_unix_epoch_day.ensures.value ∙ rw (c.to_plain.ensures, year, month, day) is in
-    let small : n < 2 ^ 31 = rw number at c.to_unix_epoch_day.type_inv in
-    let back : to_z w32 (of_z w32 c.to_unix_epoch_day.result) ≡ pos n =
-    ap (λ z. to_z w32 (of_z w32 z)) number ∙ back_small w32 (pos n) small in
-    let answer = rw back at c.try_from.ensures in
-    c.ok.ensures.value ∙ ap result_ok (Ok-from_Ok_iff c.try_from.result _ _ answer (omega arith))
+    let few = days_in_month_bounds (pos c.args.year) c.args.month in
+    let month = value.1 ∙ to_z_pos w8 _ (omega arith) in
+    let day = value.2 ∙ to_z_pos w8 _ (omega (arith, few)) in
+    let e = day_is c.args.year c.args.month c.args.day c.in-Ok.date.month c.in-Ok.date.day
+    c.in-Ok.date.year c.to_unix_epoch_day.result c.requires.year c.requires.date
+    (value.0 ∙ to_z_pos w16 _ (omega arith)) (omega (arith, signed_arith, month))
+    (omega (arith, signed_arith, day)) (c.to_unix_epoch_day.ensures.value ∙ rw c.to_plain.ensures refl) in
+    let below = e.3 in rw e.1 (tt, omega arith)
+
+pub returns-clause-value : goal.returns-clause-value
+returns-clause-value c =
+    let value = c.in-Ok.ensures.value in
+    let few = days_in_month_bounds (pos c.args.year) c.args.month in
+    let month = value.1 ∙ to_z_pos w8 _ (omega arith) in
+    let day = value.2 ∙ to_z_pos w8 _ (omega (arith, few)) in
+    let e = day_is c.args.year c.args.month c.args.day c.in-Ok.date.month c.in-Ok.date.day
+    c.in-Ok.date.year c.to_unix_epoch_day.result c.requires.year c.requires.date
+    (value.0 ∙ to_z_pos w16 _ (omega arith)) (omega (arith, signed_arith, month))
+    (omega (arith, signed_arith, day)) (c.to_unix_epoch_day.ensures.value ∙ rw c.to_plain.ensures refl) in
+    rw e.1 e.2
+
+pub returns-clause-below : goal.returns-clause-below
+returns-clause-below c =
+    let value = c.in-Ok.ensures.value in
+    let few = days_in_month_bounds (pos c.args.year) c.args.month in
+    let month = value.1 ∙ to_z_pos w8 _ (omega arith) in
+    let day = value.2 ∙ to_z_pos w8 _ (omega (arith, few)) in
+    let e = day_is c.args.year c.args.month c.args.day c.in-Ok.date.month c.in-Ok.date.day
+    c.in-Ok.date.year c.to_unix_epoch_day.result c.requires.year c.requires.date
+    (value.0 ∙ to_z_pos w16 _ (omega arith)) (omega (arith, signed_arith, month))
+    (omega (arith, signed_arith, day)) (c.to_unix_epoch_day.ensures.value ∙ rw c.to_plain.ensures refl) in
+    rw e.1 e.3
