@@ -1,7 +1,7 @@
 -- Which combined copies are printed, which of them the memory keeps, and their log (this profile;
 -- the number 00 and the share of 4 per cent are of ITU-R M.540). What is named `holding` takes
 -- first how many families are held; the same name without that word is its case of 200.
-use Rattle.std.specs.Prelude.{◌≡◌, ℕ, ◌==◌, Bool, false, ◌&&◌, ◌||◌, if◌then◌else◌}
+use Rattle.std.specs.Prelude.{◌≡◌, ℕ, ◌==◌, Bool, false, ◌&&◌, ◌||◌}
 use Rattle.std.specs.Prelude.{List, [], ◌∷◌, ◌++◌, map, Option, Some, is_some}
 use Rattle.std.specs.List.{find}
 use Rattle.std.specs.Option.{option_map_or}
@@ -71,9 +71,6 @@ printed_of_placed_holding held start events copies =
     (printed_combined start.entries []
     (combined_copies_holding held [] (heard_copies (first_setting start) events copies)))
 
-abbrev pub printed_of_placed : Start → List Event → List PlacedCopy → List TaggedCopy
-printed_of_placed = printed_of_placed_holding most_families
-
 -- What is printed, combined, after these events of the copies that are `found` in their elements.
 pub record PrintsHolding (held : ℕ) (found : List Bool → List Lock → Now → List PlacedCopy)
     (start : Start) (events : List Event) (log : List TaggedCopy)
@@ -83,10 +80,6 @@ pub record PrintsHolding (held : ℕ) (found : List Bool → List Lock → Now �
   pub stands : IsNow (elements_among events) locks now
   pub printed : log
       ≡ printed_of_placed_holding held start events (found (elements_among events) locks now)
-
-abbrev pub PrintsCombined : (List Bool → List Lock → Now → List PlacedCopy) → Start → List Event
-    → List TaggedCopy → Type 0
-PrintsCombined = PrintsHolding most_families
 
 -- What is printed of the copies that have ended after these events.
 abbrev pub HasPrintedHolding : ℕ → Start → List Event → List TaggedCopy → Type 0

@@ -1,6 +1,6 @@
 -- What a receiver that takes several sendings together holds, and after which events: the layer
 -- contract (this profile). `held` is how many families are held.
-use Rattle.std.specs.Prelude.{◌≡◌, ℕ, Bool, List, [], Option, if◌then◌else◌}
+use Rattle.std.specs.Prelude.{◌≡◌, ℕ, Bool, List, [], Option}
 use Rattle.nx_code.specs.Lists.{last_of}
 use Rattle.nx_memory.specs.Memory.{most_entries}
 use Rattle.nx_memory.specs.declared.memories.entry.MemoryEntry.{MemoryEntry}
@@ -19,7 +19,7 @@ use Rattle.nx_combine.specs.Families.{combined_copies_holding, most_families}
 use Rattle.nx_combine.specs.Judging.{CombinerView, HeldFamilies, Judged, StandsHolding, all_copies}
 use Rattle.nx_combine.specs.Judging.{combiner_of}
 use Rattle.nx_envelope.specs.FinderView.{FinderView}
-use Rattle.nx_combine.specs.Judging.{judged_after_holding, judged_behind_holding, printed_by_holding}
+use Rattle.nx_combine.specs.Judging.{judged_behind_holding}
 use Rattle.nx_combine.specs.declared.taker.CombinedTaker.{CombinedTaker}
 
 -- what is left before any copy came, with these entries in the memory
@@ -96,16 +96,6 @@ pub record HasJudged (held : ℕ) {M : Type 0} (content : M → List MemoryEntry
     pub combiner : StandsHolding held receiver.combiner
         (judged_behind_holding held (judged_none start.entries) copies).families
         (judged_behind_holding held (judged_none start.entries) copies).printed
-
--- what a call that judges a copy says, by what other copies left: it judged one more
-pub record JudgesNext (held : ℕ) {M : Type 0} (content : M → List MemoryEntry) (memory : M)
-    (combiner : CombinerView) (so_far : Judged) (heard : HeardCopy) (printed : List TaggedCopy)
-    : Type 0 where
-  pub stands : StandsHolding held combiner (judged_after_holding held so_far heard).families
-      (judged_after_holding held so_far heard).printed
-  pub entered : content memory
-      ≡ last_of most_entries (judged_after_holding held so_far heard).entries
-  pub printed_is : all_copies (printed_by_holding held so_far heard) ≡ printed
 
 -- The receiver stands after these events, which begin with this start, and this is the log of what
 -- it handed out. Its synchroniser and its taker stand after the elements, with what is in force at

@@ -2,7 +2,7 @@
 -- those of one channel, in the order of their headers. What is named `holding` takes first how many
 -- families are held; what bears the same name without that word is its case of 200.
 use Rattle.std.specs.Prelude.{ℕ, ◌-◌, nat_lt, nat_le, Bool, false, not, ◌&&◌}
-use Rattle.std.specs.Prelude.{if◌then◌else◌, List, [], ◌∷◌, ◌++◌, length, position}
+use Rattle.std.specs.Prelude.{List, [], ◌∷◌, ◌++◌, length, position}
 use Rattle.std.specs.Prelude.{slice_get, slice_set, Option, Some, None, unwrap_or}
 use Rattle.std.specs.Option.{option_and_then, option_map, option_map_or}
 use Rattle.nx_code.specs.Reading.{Reception}
@@ -65,9 +65,6 @@ index_joined_holding held families heard =
     option_and_then
     (λ index. if joins_at_holding held families heard index then Some index else None)
     (last_index heard.copy.identity families)
-
-abbrev pub index_joined : List Family → HeardCopy → Option ℕ
-index_joined = index_joined_holding most_families
 
 -- the family that a copy begins
 abbrev pub begun_by : HeardCopy → Family
@@ -151,9 +148,6 @@ combined_copy_holding held families heard =
     (alone (Some (length families)) heard)
     else alone None heard
 
-abbrev pub combined_copy : List Family → HeardCopy → CombinedCopy
-combined_copy = combined_copy_holding most_families
-
 -- the combined copies of copies that come behind these families, one for each that is selected, in
 -- the same order
 unfoldable pub combined_copies_holding : ℕ → List Family → List HeardCopy → List CombinedCopy
@@ -161,6 +155,3 @@ combined_copies_holding held families [] = []
 combined_copies_holding held families (heard ∷ later) =
     (if heard.copy.selected then combined_copy_holding held families heard ∷ [] else [])
     ++ combined_copies_holding held (families_after_holding held families heard) later
-
-abbrev pub combined_copies : List Family → List HeardCopy → List CombinedCopy
-combined_copies = combined_copies_holding most_families

@@ -1,7 +1,7 @@
 -- What judges combined copies holds, and which copies leave it so (this profile). What is named
 -- `holding` takes first how many families are held; the same name without that word is its case of
 -- 200.
-use Rattle.std.specs.Prelude.{◌≡◌, ℕ, zero, suc, ◌-◌, ◌<◌, ◌==◌, Bool, false, if◌then◌else◌}
+use Rattle.std.specs.Prelude.{◌≡◌, ℕ, zero, suc, ◌-◌, ◌<◌, ◌==◌, Bool, false}
 use Rattle.std.specs.Prelude.{List, [], ◌∷◌, ◌++◌, fold, length, map, take, Option, Some}
 use Rattle.std.specs.List.{AllByRecursion, find}
 use Rattle.std.specs.Option.{option_map, option_map_or}
@@ -121,14 +121,6 @@ pub record StandsHolding (count : ℕ) (combiner : CombinerView) (families : Lis
 -- it holds the last 200
 abbrev pub StandsCombined : CombinerView → List Family → List CombinedCopy → Type 0
 StandsCombined = StandsHolding most_families
-
--- where these families were begun, the combined copy is of the one of this index, newest first, and
--- comes to this copy
-pub record ComesTo (one : CombinedCopy) (families : List Family) (family : Option ℕ)
-    (copy : TaggedCopy)
-    : Type 0 where
-  pub of_family : one.family ≡ option_map (λ index. length families - 1 - index) family
-  pub is : one.copy ≡ copy
 
 -- The copy that was heard is this one. Of positions that are too many not more are given than show
 -- it.

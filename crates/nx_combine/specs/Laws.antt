@@ -222,10 +222,6 @@ pub record AreHeardTogetherHolding (held : ℕ) (sent : List ℕ) (behind : ℕ 
       (length (judged_after_holding held so_far first).entries)
       (judged_after_holding held so_far first) copies
 
-abbrev pub AreHeardTogether : List ℕ → (ℕ → ℕ) → Identity → Judged → HeardCopy → List HeardCopy
-    → Type 0
-AreHeardTogether = AreHeardTogetherHolding most_families
-
 -- the combined copy bears the identity
 abbrev pub is_named : Identity → CombinedCopy → Bool
 is_named identity one = same_identity one.copy.identity identity

@@ -6,3 +6,8 @@ pub mod PlainHead
 pub mod RingPlaces
 pub mod TakerSteps
 pub mod laws
+pub mod CombinedPrinting
+pub mod CombinedReceiver
+pub mod Families
+pub mod Judging
+pub mod Laws

@@ -13,7 +13,8 @@ ghost use Rattle.nx_combine.specs.CombinedPrinting.{is_better_than_before, is_pr
 ghost use Rattle.nx_combine.specs.Combining.{meant};
 ghost use Rattle.nx_combine.specs.CopyPositions.{HeardCopy};
 ghost use Rattle.nx_combine.specs.Families.{CombinedCopy, Family as OneFamily, combined_copy_holding, families_after_holding};
-ghost use Rattle.nx_combine.specs.Judging.{ComesTo, IsGivenAs, StandsCombined, StandsHolding, combiner_of};
+ghost use Rattle.nx_combine.specs.Judging.{IsGivenAs, StandsCombined, StandsHolding, combiner_of};
+ghost use Rattle.nx_combine.specs.private.Judging.{ComesTo};
 ghost use Rattle.nx_combine.specs.Judging.{all_copies, copies_printed, text_printed};
 
 use crate::combining::{Combined, is_better};

@@ -16,7 +16,8 @@ ghost use Rattle.nx_receiver.specs.declared.command.Command.TheVariants.{RefuseS
 ghost use Rattle.nx_receiver.specs.Moments.{Refuses};
 ghost use Rattle.nx_receiver.specs.Receiver.{HeadsText, headed_list};
 ghost use Rattle.nx_combine.specs.CombinedPrinting.{PrintsHoldingToEnd};
-ghost use Rattle.nx_combine.specs.CombinedReceiver.{AwaitsAfterAllHolding, JudgesNext, StandsAfterAllHolding, combined_kind_holding, hearer_in, receiver_in, text_over};
+ghost use Rattle.nx_combine.specs.CombinedReceiver.{AwaitsAfterAllHolding, StandsAfterAllHolding, combined_kind_holding, hearer_in, receiver_in, text_over};
+ghost use Rattle.nx_combine.specs.private.CombinedReceiver.{JudgesNext};
 ghost use Rattle.nx_combine.specs.CopyPositions.{HeardCopy};
 ghost use Rattle.nx_combine.specs.Judging.{Judged, StandsHolding, combiner_of};
 ghost use Rattle.nx_combine.specs.Notes.{noted};

@@ -78,10 +78,6 @@ abbrev pub PrintOfBy : Printing → Ending → Starts → List Given → List Ma
 PrintOfBy printing stopped = PrintsInTurnBy printing
 PrintOfBy printing ending = PrintAllToEndBy printing
 
--- the same where each copy is judged alone
-abbrev pub PrintOf : Ending → Starts → List Given → List MarkedCopy → Type 0
-PrintOf = PrintOfBy plain
-
 -- where it answered, it read on behind all lines, and put all that was printed
 abbrev pub PutAll : Ending → List Line → List MarkedCopy → List MarkedCopy → Type 0
 PutAll answered more printed put = (more ≡ []) × (put ≡ printed)

@@ -9,3 +9,4 @@ pub mod Bounds
 pub mod Together
 pub mod Written
 pub mod Shortened
+pub mod private

@@ -26,9 +26,6 @@ stamp read gave disk writer notices = record {
 abbrev pub CutNote : Type 0 → Type 0 → Type 0
 CutNote D N = Stamp D (Unit {0}) N
 
-abbrev pub note : {D N : Type 0} → D → N → CutNote D N
-note disk notices = stamp 0 0 disk tt notices
-
 -- The stamps, the last one first, are all reads of a run that read so many bytes. The first read
 -- stood at none, each other one where the one before it ended, and the bytes end where the last one
 -- ended. Each gave at most what one read gives. A run that made no read has no stamp, and read

@@ -265,21 +265,6 @@ module _ {D R W E : Type 0} (d : WatchDevices D R W E) where
     pub told : HasToldOf file at.disk at.notices
         (IsToldByRead (moments_at now starts) (take at.read bytes) lines)
 
-  -- the same over the file as it stood before the watch
-  abbrev pub StoodAtBy : Printing → ℕ → Starts → List MarkedCopy → List ℕ → List MarkedCopy
-      → Stamp D (CountedDevice W) (CountedDevice E) → Type 0
-  StoodAtBy printing now starts entries bytes copies at =
-      StoodOverBy printing (d.tells.seen d.start d.disk) now starts entries bytes copies at
-
-  -- the same where each copy is judged alone
-  abbrev pub StoodOver : List ℕ → ℕ → Starts → List MarkedCopy → List ℕ → List MarkedCopy
-      → Stamp D (CountedDevice W) (CountedDevice E) → Type 0
-  StoodOver = StoodOverBy plain
-
-  abbrev pub StoodAt : ℕ → Starts → List MarkedCopy → List ℕ → List MarkedCopy
-      → Stamp D (CountedDevice W) (CountedDevice E) → Type 0
-  StoodAt = StoodAtBy plain
-
   -- All copies are kept behind the entries, on the disk, and nothing was written. The file is at
   -- rest.
   pub record KeepsAll (entries copies : List MarkedCopy) : Type 0 where
@@ -330,21 +315,6 @@ module _ {D R W E : Type 0} (d : WatchDevices D R W E) where
     pub notices_told : HasToldOf file d.disk_after d.notices_after
         (IsToldAtEnd (moments_at now starts) bytes lines)
 
-  -- the same over the file as it stood before the watch
-  abbrev pub HasWatchedBy : Printing → ℕ → Starts → List MarkedCopy → Stop → List (Option Line)
-      → List MarkedCopy → Type 0
-  HasWatchedBy printing now starts entries stop lines copies =
-      HasWatchedOverBy printing (d.tells.seen d.start d.disk) now starts entries stop lines copies
-
-  -- the same where each copy is judged alone
-  abbrev pub HasWatchedOver : List ℕ → ℕ → Starts → List MarkedCopy → Stop → List (Option Line)
-      → List MarkedCopy → Type 0
-  HasWatchedOver = HasWatchedOverBy plain
-
-  abbrev pub HasWatched : ℕ → Starts → List MarkedCopy → Stop → List (Option Line)
-      → List MarkedCopy → Type 0
-  HasWatched = HasWatchedBy plain
-
   -- Only the file was touched, and at each moment a crash leaves what it could leave before, or a
   -- file that stands for the entries. What is to be cut of it was told; or nothing was told, and
   -- the file is only read.
@@ -391,14 +361,6 @@ module _ {D R W E : Type 0} (d : WatchDevices D R W E) where
       AnswersStartedBy printing now (starts_at now entries) entries outcome
 
   -- the same where each copy is judged alone
-  abbrev pub AnswersOver : List ℕ → ℕ → Starts → List MarkedCopy → Result WatchReport WatchFault
-      → Type 0
-  AnswersOver = AnswersOverBy plain
-
-  abbrev pub AnswersStarted : ℕ → Starts → List MarkedCopy → Result WatchReport WatchFault
-      → Type 0
-  AnswersStarted = AnswersStartedBy plain
-
   abbrev pub AnswersWatch : ℕ → List MarkedCopy → Result WatchReport WatchFault → Type 0
   AnswersWatch = AnswersWatchBy plain
 

@@ -10,3 +10,5 @@ pub mod Entries
 pub mod Answering
 pub mod LoggingListener
 pub mod Stamping
+pub mod LineRun
+pub mod Stamp

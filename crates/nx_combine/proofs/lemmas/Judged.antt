@@ -30,7 +30,8 @@ use Rattle.nx_combine.specs.declared.combining.Combined.{Combined}
 use Rattle.nx_combine.specs.Families.{CombinedCopy, Family, alone, combined_at}
 use Rattle.nx_combine.specs.Families.{combined_copy_holding}
 use Rattle.nx_combine.specs.Families.{families_after_holding, has_family, index_joined_holding}
-use Rattle.nx_combine.specs.Judging.{ComesTo, IsGivenAs, IsOfBegun, StandsHolding, all_last_printed}
+use Rattle.nx_combine.specs.Judging.{IsGivenAs, IsOfBegun, StandsHolding, all_last_printed}
+use Rattle.nx_combine.specs.private.Judging.{ComesTo}
 use Rattle.nx_combine.specs.Judging.{head_of, is_of_number, last_printed}
 use Rattle.nx_combine.proofs.lemmas.Held.{no_family, take-pushed}
 use Rattle.nx_combine.proofs.lemmas.Sendings.{and_false}

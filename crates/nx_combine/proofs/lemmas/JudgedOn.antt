@@ -14,7 +14,8 @@ use Rattle.nx_combine.specs.CombinedPrinting.{printed_combined}
 use Rattle.nx_copies.specs.copies.FoundCopies.{TaggedCopy, headed_copy}
 use Rattle.nx_copies.specs.declared.entry.EntryHead.{EntryHead}
 use Rattle.nx_receiver.specs.Receiver.{headed_list}
-use Rattle.nx_combine.specs.CombinedReceiver.{CombiningReceiver, HasJudged, JudgesNext}
+use Rattle.nx_combine.specs.CombinedReceiver.{CombiningReceiver, HasJudged}
+use Rattle.nx_combine.specs.private.CombinedReceiver.{JudgesNext}
 use Rattle.nx_combine.specs.CombinedReceiver.{StandsAfterAllHolding}
 use Rattle.nx_combine.specs.CombinedReceiver.{hearer_in, judged_none}
 use Rattle.nx_combine.specs.CopyPositions.{HeardCopy}

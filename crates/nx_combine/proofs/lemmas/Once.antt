@@ -33,7 +33,8 @@ use Rattle.nx_combine.specs.Families.{CombinedCopy, Family, alone, combined_at}
 use Rattle.nx_combine.specs.Families.{combined_copies_holding}
 use Rattle.nx_combine.specs.Families.{combined_copy_holding, families_after_holding, given_by}
 use Rattle.nx_combine.specs.Families.{has_family, index_joined_holding}
-use Rattle.nx_combine.specs.Families.{combined_copies, combined_copy, joined_by, most_families}
+use Rattle.nx_combine.specs.Families.{joined_by, most_families}
+use Rattle.nx_combine.specs.private.Families.{combined_copies, combined_copy}
 use Rattle.nx_combine.specs.Judging.{Judged, all_printed_holding, is_of_number}
 use Rattle.nx_combine.specs.Judging.{judged_after_holding, judged_behind_holding}
 use Rattle.nx_combine.specs.Judging.{all_printed, printed_by_holding}

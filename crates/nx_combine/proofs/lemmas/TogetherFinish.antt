@@ -26,7 +26,8 @@ use Rattle.nx_combine.specs.CombinedHearing.{AllHeard, CombinedOver, CombinedSta
 use Rattle.nx_combine.specs.CombinedHearing.{copies_of}
 use Rattle.nx_combine.specs.CombinedPrinting.{PrintsHoldingToEnd}
 use Rattle.nx_combine.specs.CombinedReceiver.{AwaitsAfterAllHolding, CombiningReceiver, HasJudged}
-use Rattle.nx_combine.specs.CombinedReceiver.{JudgesNext, StandsAfterAllHolding, hearer_in}
+use Rattle.nx_combine.specs.CombinedReceiver.{StandsAfterAllHolding, hearer_in}
+use Rattle.nx_combine.specs.private.CombinedReceiver.{JudgesNext}
 use Rattle.nx_combine.specs.CombinedReceiver.{judged_none}
 use Rattle.nx_combine.specs.CombinedReceiver.{text_in}
 use Rattle.nx_combine.specs.CopyPositions.{HeardCopy}

@@ -4,7 +4,7 @@ use Rattle.std.proofs.Common.{option_to_list, refl, sym, ap, ap₂, ◌∙◌, s
 use Rattle.nx_fec.specs.air_files.AirFile.{Line}
 use Rattle.nx_watch.specs.Acting.{acting_behind, acting_lines, acts, moment_said, moments_said}
 use Rattle.nx_watch.specs.Acting.{with_start}
-use Rattle.nx_watch.specs.LineRun.{MayAct}
+use Rattle.nx_watch.specs.private.LineRun.{MayAct}
 use Rattle.nx_watch.specs.declared.lines.line_effects.StartMoments.{StartMoments}
 use Rattle.nx_watch.proofs.lemmas.lines.Run.{may-act}
 use Rattle.nx_left_on.proofs.lemmas.entries.Climbing.{Act}

@@ -11,7 +11,7 @@ use Rattle.nx_watch.specs.Watch.{TellsOfCut, longest_entry}
 use Rattle.nx_watch.specs.declared.kept_log.log_grammar.LogGrammar.{LogGrammar}
 use Rattle.nx_watch.specs.declared.kept_log.log_memory.LogMemory.{LogMemory}
 use Rattle.nx_watch.specs.LineRun.{HasTold}
-use Rattle.nx_watch.specs.Stamp.{note}
+use Rattle.nx_watch.specs.private.Stamp.{note}
 use Rattle.nx_watch.specs.Stamps.{notes_of}
 use Rattle.nx_watch.specs.declared.kept_log.log_opening.LogOpening.{LogOpening}
 use Rattle.nx_watch.specs.private.Remembering.{RemembersMore}

@@ -9,7 +9,7 @@ use Rattle.nx_memory.specs.Selection.{is_vital}
 use Rattle.nx_receiver.specs.Moments.{Refuses}
 use Rattle.nx_watch.specs.Acting.{acting_lines, acts, count_without, ends_watch, first_without}
 use Rattle.nx_watch.specs.Acting.{given, in_force, moment_said, moments_behind, went_far_back}
-use Rattle.nx_watch.specs.LineRun.{MayAct}
+use Rattle.nx_watch.specs.private.LineRun.{MayAct}
 use Rattle.nx_watch.specs.LinesTold.{IsReason}
 use Rattle.nx_watch.specs.declared.lines.line_effects.StartMoments.{StartMoments}
 use Rattle.nx_watch.specs.declared.lines.line_effects.LineEffects.{LineEffects}

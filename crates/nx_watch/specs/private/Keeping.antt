@@ -9,7 +9,7 @@ use Rattle.nx_kept.specs.Log.{Keeps}
 use Rattle.nx_kept.specs.declared.disk.DiskFile.{Ghosts as TellsOfDisk}
 use Rattle.nx_log.specs.Entries.{IsWholeEntry}
 use Rattle.nx_watch.specs.Watch.{longest_entry}
-use Rattle.nx_watch.specs.LineRun.{WereGiven}
+use Rattle.nx_watch.specs.private.LineRun.{WereGiven}
 use Rattle.nx_watch.specs.declared.kept_log.keeper.Keeper.{Keeper}
 
 -- a keeper with the log of this one, which so many texts had been put into

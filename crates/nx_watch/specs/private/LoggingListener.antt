@@ -12,7 +12,7 @@ use Rattle.nx_receiver.specs.Listener.{HearsBy, ListeningOver, moment_in_force, 
 use Rattle.nx_copies.specs.copies.InTurn.{PrintAllToEndBy}
 use Rattle.nx_copies.specs.copies.Log.{Printing}
 use Rattle.nx_copies.specs.copies.Shares.{Given, MarkedCopy, Starts}
-use Rattle.nx_watch.specs.LineRun.{TakerRelation, WereGiven, force_behind}
+use Rattle.nx_watch.specs.private.LineRun.{TakerRelation, WereGiven, force_behind}
 use Rattle.nx_watch.specs.Watch.{AnswersOverBy, FailsWithin, HasCause, PrintsLoggable, TellsOfCut}
 use Rattle.nx_watch.specs.Watch.{WatchDevices}
 use Rattle.nx_watch.specs.declared.kept_log.keeper.Keeper.{Keeper}

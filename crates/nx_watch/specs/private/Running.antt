@@ -3,7 +3,8 @@ use Rattle.std.specs.Prelude.{◌≡◌, ◌⊎◌, ℕ, Bool, List, [], ◌++�
 use Rattle.nx_fec.specs.air_files.AirFile.{Line}
 use Rattle.nx_watch.specs.AnyLines.{AreLines, cut_line}
 use Rattle.nx_watch.specs.Acting.{count_without, first_without}
-use Rattle.nx_watch.specs.LineRun.{AnswersRun, AreCounted, HasTaken, HasTold, TakerRelation}
+use Rattle.nx_watch.specs.LineRun.{HasTold}
+use Rattle.nx_watch.specs.private.LineRun.{AnswersRun, AreCounted, HasTaken, TakerRelation}
 use Rattle.nx_watch.specs.LinesTold.{IsFirstTold, IsToldByRead, number_told, put_told}
 use Rattle.nx_watch.specs.declared.lines.line_effects.LineEffects.{LineEffects}
 use Rattle.nx_watch.specs.declared.lines.line_effects.StartMoments.{StartMoments}

@@ -8,7 +8,7 @@ ghost use Rattle.nx_kept.specs.declared.fault.OpenFault.TheVariants as why;
 ghost use Rattle.nx_log.specs.Entries.{IsWholeEntry};
 ghost use Rattle.nx_watch.specs.Watch.{FailsWithin, longest_entry};
 ghost use Rattle.nx_watch.specs.CutTold.{AreHeads, TellsOfSomeCut, cut_told};
-ghost use Rattle.nx_watch.specs.Stamp.{note};
+ghost use Rattle.nx_watch.specs.private.Stamp.{note};
 ghost use Rattle.nx_watch.specs.Stamps.{notes_of};
 ghost use Rattle.nx_watch.specs.ToldFirst.{TellsBeforeChange, ToldBeforeCut};
 ghost use Rattle.nx_watch.specs.private.Cutting.{HasToldCut, HearsOfCut, OpensLog, TakesEntry, TellsMore};

@@ -7,7 +7,7 @@ ghost use Rattle.nx_receiver.specs.Moments.{Refuses};
 ghost use Rattle.nx_watch.specs.declared.lines.line_effects.LineEffects.{LineEffects as TheEffects};
 ghost use Rattle.nx_watch.specs.declared.lines.line_effects.StartMoments.{StartMoments as TheStart};
 ghost use Rattle.nx_watch.specs.Acting.{acts, given, in_force, is_far_back as far_back, moment_said, moments_behind};
-ghost use Rattle.nx_watch.specs.LineRun.{AreCounted, MayAct};
+ghost use Rattle.nx_watch.specs.private.LineRun.{AreCounted, MayAct};
 ghost use Rattle.nx_watch.specs.private.Effects.{is_acting, IsAnswer, IsEffect, IsKept, IsStartBefore, KeepsMoments, SameCounts, said_behind, set_by};
 
 use crate::lines::no_effect::NoEffect;

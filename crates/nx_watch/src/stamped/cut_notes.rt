@@ -1,7 +1,7 @@
 //! What stood as a start told what it cuts of its log.
 
 ghost use Rattle.std.specs.Prelude.{◌≡◌, [], ◌∷◌};
-ghost use Rattle.nx_watch.specs.Stamp.{note};
+ghost use Rattle.nx_watch.specs.private.Stamp.{note};
 ghost use Rattle.nx_watch.specs.Stamps.{notes_of};
 
 use crate::stamped::stamps::Stamps;

@@ -10,7 +10,8 @@ use Rattle.nx_copies.specs.copies.Shares.{MarkedCopy}
 use Rattle.nx_watch.specs.LineRun.{HasTold}
 use Rattle.nx_watch.specs.LinesTold.{IsToldByRead}
 use Rattle.nx_watch.specs.Stamp.{Stamp}
-use Rattle.nx_watch.specs.Watch.{AnswersStartedBy, AnswersWatch, HadFailed, HasOpened, StoodAtBy, WatchDevices, moments_at, starts_at}
+use Rattle.nx_watch.specs.Watch.{AnswersStartedBy, AnswersWatch, HadFailed, HasOpened}
+use Rattle.nx_watch.specs.Watch.{StoodOverBy, WatchDevices, moments_at, starts_at}
 use Rattle.nx_watch.specs.declared.watch_report.WatchReport.{WatchReport}
 use Rattle.nx_watch.specs.declared.watch_fault.WatchFault.{WatchFault}
 use Rattle.nx_watch.specs.declared.watch_fault.WatchFault.TheVariants.{Open, Damaged, Disk, Memory}
@@ -45,7 +46,8 @@ module _ {D R W N : Type 0} (d : WatchDevices D R W N) (now : ℕ) (entries : Li
       StoodThere = (bytes : List ℕ) × Consumes (d.streams.remaining d.streams.reader.inner)
           (d.streams.remaining d.streams.reader_after.inner) bytes
           × (copies : List MarkedCopy)
-          × StoodAtBy d plain now (starts_at now entries) entries bytes copies at
+          × StoodOverBy d plain (d.tells.seen d.start d.disk)
+              now (starts_at now entries) entries bytes copies at
 
       started-there : (outcome : Result WatchReport WatchFault)
           → AnswersStartedBy d plain now (starts_at now entries) entries outcome → StoodThere
@@ -54,7 +56,8 @@ module _ {D R W N : Type 0} (d : WatchDevices D R W N) (now : ℕ) (entries : Li
             watched.bytes,
             watched.consumed,
             s.2,
-            All-contains (StoodAtBy d plain now (starts_at now entries) entries watched.bytes s.2)
+            All-contains (StoodOverBy d plain (d.tells.seen d.start d.disk)
+                now (starts_at now entries) entries watched.bytes s.2)
                 d.stamps at watched.before_each_read there,
           )
 

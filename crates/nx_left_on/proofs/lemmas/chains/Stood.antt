@@ -31,8 +31,8 @@ use Rattle.nx_watch.specs.Acting.{moments_said, with_start}
 use Rattle.nx_watch.specs.AnyLines.{AreLines, cut_line, ended}
 use Rattle.nx_watch.specs.LineRun.{StopsBehind}
 use Rattle.nx_watch.specs.Stamp.{Stamp}
-use Rattle.nx_watch.specs.Watch.{HasRead, HasWatchedBy, HadKept, KeepsAll}
-use Rattle.nx_watch.specs.Watch.{PrintsUntilBy, StandsForEntries, StoodAtBy}
+use Rattle.nx_watch.specs.Watch.{HasRead, HasWatchedOverBy, HadKept, KeepsAll}
+use Rattle.nx_watch.specs.Watch.{PrintsUntilBy, StandsForEntries, StoodOverBy}
 use Rattle.nx_watch.specs.Watch.{Stop, WatchDevices, at_end, back, moments_at, starts_at, unread}
 use Rattle.nx_watch.specs.Watch.{unwritten}
 use Rattle.nx_watch.specs.declared.lines.line_effects.StartMoments.{StartMoments}
@@ -288,7 +288,8 @@ module _ {printing : Printing} {Goes : List MarkedCopy → Watch → Type 0}
   of-call : {D R W N : Type 0} (d : WatchDevices D R W N) (now : ℕ) (entries copies : List
       MarkedCopy)
       (stop : Stop) (lines sure : List (Option Line)) (end : CallEnd) (put : List MarkedCopy)
-      (file : List ℕ) (watched : HasWatchedBy d printing now (starts_at now entries) entries stop
+      (file : List ℕ) (watched : HasWatchedOverBy d printing (d.tells.seen d.start d.disk)
+          now (starts_at now entries) entries stop
       lines copies)
       → AreSure end watched.bytes lines sure
       → IsLeftPrinting printing now entries (ending_by end stop) (acting_at now entries lines)
@@ -318,12 +319,14 @@ module _ {printing : Printing} {Goes : List MarkedCopy → Watch → Type 0}
   pub left-behind : {D R W N : Type 0} (d : WatchDevices D R W N) (now : ℕ)
       (entries copies : List MarkedCopy) (stop : Stop) (lines : List (Option Line))
       (at : Stamp D (CountedDevice W) (CountedDevice N)) (file : List ℕ)
-      (watched : HasWatchedBy d printing now (starts_at now entries) entries stop lines copies)
+      (watched : HasWatchedOverBy d printing (d.tells.seen d.start d.disk)
+          now (starts_at now entries) entries stop lines copies)
       → Contains d.stamps at → d.tells.faults at.disk ≡ d.tells.faults d.disk
       → d.tells.left_since d.start d.disk_after (d.tells.moment at.disk) file
       → (watch : Watch) × IsOfCallBy Goes d.streams now entries (left_behind at.read) file watch
   left-behind d now entries copies stop lines at file watched there well crash =
-      let stood = All-contains (StoodAtBy d printing now (starts_at now entries) entries
+      let stood = All-contains (StoodOverBy d printing (d.tells.seen d.start d.disk)
+          now (starts_at now entries) entries
       watched.bytes copies)
       d.stamps at watched.before_each_read there in
       let kept : HadKept d entries stood.printed copies at = elim stood.kept [
@@ -344,7 +347,8 @@ module _ {printing : Printing} {Goes : List MarkedCopy → Watch → Type 0}
   -- when all is over, where all is kept
   pub kept-over : {D R W N : Type 0} (d : WatchDevices D R W N) (now : ℕ)
       (entries copies : List MarkedCopy) (stop : Stop) (lines : List (Option Line)) (file : List ℕ)
-      → HasWatchedBy d printing now (starts_at now entries) entries stop lines copies
+      → HasWatchedOverBy d printing (d.tells.seen d.start d.disk)
+          now (starts_at now entries) entries stop lines copies
       → KeepsAll d entries copies
       → (d.tells.seen d.start d.disk_after ≡ file) ⊎ d.tells.may_leave d.start d.disk_after file
       → (watch : Watch) × IsOfCallBy Goes d.streams now entries all_kept file watch

@@ -20,7 +20,8 @@ use Rattle.nx_combine.specs.CombinedPrinting.{entry_made_combined}
 use Rattle.nx_combine.specs.CombinedPrinting.{if_printed_combined, is_better_than_before}
 use Rattle.nx_combine.specs.CombinedPrinting.{is_entered_combined, is_printed_combined, printed_combined}
 use Rattle.nx_combine.specs.CopyPositions.{HeardCopy}
-use Rattle.nx_combine.specs.Families.{CombinedCopy, combined_copies, combined_copy}
+use Rattle.nx_combine.specs.Families.{CombinedCopy}
+use Rattle.nx_combine.specs.private.Families.{combined_copies, combined_copy}
 use Rattle.nx_combine.specs.Judging.{Judged, all_copies, all_printed, judged_after}
 use Rattle.nx_combine.specs.Laws.{is_named}
 use Rattle.nx_combine.proofs.lemmas.Judged.{made_unprinted}

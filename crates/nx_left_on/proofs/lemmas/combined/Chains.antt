@@ -20,11 +20,12 @@ use Rattle.nx_copies.specs.copies.FoundCopies.{TaggedCopy, tag}
 use Rattle.nx_copies.specs.copies.Printing.{copies_of, entry_of}
 use Rattle.nx_copies.specs.copies.Shares.{Given, MarkedCopy, Starts, copies_on, share, start_on}
 use Rattle.nx_copies.proofs.lemmas.channels.Shares.{copies_on-append, to_end-on}
-use Rattle.nx_combine.specs.CombinedPrinting.{PrintsCombined, combined, if_printed_combined}
+use Rattle.nx_combine.specs.CombinedPrinting.{combined, if_printed_combined}
+use Rattle.nx_combine.specs.private.CombinedPrinting.{PrintsCombined}
 use Rattle.nx_combine.specs.CombinedPrinting.{is_printed_combined}
 use Rattle.nx_combine.specs.CopyPositions.{HeardCopy, PlacedCopy, ended_placed, heard_copies}
 use Rattle.nx_combine.specs.CopyPositions.{placed_to_end}
-use Rattle.nx_combine.specs.Families.{combined_copy}
+use Rattle.nx_combine.specs.private.Families.{combined_copy}
 use Rattle.nx_combine.specs.Judging.{Judged, all_copies, all_printed, judged_after}
 use Rattle.nx_combine.proofs.lemmas.Once.{in_order, tagged_as}
 use Rattle.nx_promises.specs.laws.Together.{IsHeardTogether, IsPrintedWholeOnce, IsThroughWith}

@@ -14,8 +14,10 @@ use Rattle.nx_copies.specs.copies.Printing.{is_better, is_number_00}
 use Rattle.nx_combine.specs.CombinedPrinting.{if_printed_combined, is_better_than_before}
 use Rattle.nx_combine.specs.CombinedPrinting.{is_printed_combined}
 use Rattle.nx_combine.specs.CopyPositions.{HeardCopy}
-use Rattle.nx_combine.specs.Families.{CombinedCopy, Family, begun_by, combined_copy, families_after}
-use Rattle.nx_combine.specs.Families.{has_family, index_joined, joined_by, last_index, most_positions}
+use Rattle.nx_combine.specs.Families.{CombinedCopy, Family, begun_by, families_after}
+use Rattle.nx_combine.specs.private.Families.{combined_copy}
+use Rattle.nx_combine.specs.Families.{has_family, joined_by, last_index, most_positions}
+use Rattle.nx_combine.specs.private.Families.{index_joined}
 use Rattle.nx_combine.specs.Families.{index_joined_holding}
 use Rattle.nx_combine.specs.Judging.{Judged, is_of_number, judged_after}
 use Rattle.nx_combine.specs.Laws.{is_named}

@@ -21,10 +21,12 @@ use Rattle.nx_copies.specs.copies.FoundCopies.{TaggedCopy}
 use Rattle.nx_copies.specs.copies.FoundCopies.{tag, tagged_copies}
 use Rattle.nx_copies.specs.copies.Printing.{entry_of, good_share, is_full, is_good, is_number_00}
 use Rattle.nx_copies.specs.copies.Shares.{MarkedCopy, copies_on}
-use Rattle.nx_combine.specs.CombinedPrinting.{PrintsCombined, if_printed_combined, is_printed_combined}
+use Rattle.nx_combine.specs.CombinedPrinting.{if_printed_combined, is_printed_combined}
+use Rattle.nx_combine.specs.private.CombinedPrinting.{PrintsCombined}
 use Rattle.nx_combine.specs.CopyPositions.{HeardCopy, PlacedCopy, heard_copies}
 use Rattle.nx_combine.specs.CopyPositions.{placed_to_end}
-use Rattle.nx_combine.specs.Families.{CombinedCopy, combined_copy}
+use Rattle.nx_combine.specs.Families.{CombinedCopy}
+use Rattle.nx_combine.specs.private.Families.{combined_copy}
 use Rattle.nx_combine.specs.Judging.{Judged, all_copies, all_printed, judged_after, judged_behind}
 use Rattle.nx_combine.specs.Laws.{is_named}
 use Rattle.nx_combine.specs.private.laws.Heard.{found_of}

@@ -17,7 +17,7 @@ use Rattle.nx_receiver.specs.air_file_runs.Listen.{events_on}
 use Rattle.nx_copies.proofs.lemmas.once.Rising.{Above, Rises}
 use Rattle.nx_copies.proofs.lemmas.printing.Logged.{length-settings}
 use Rattle.nx_watch.specs.Acting.{in_force, moments_said}
-use Rattle.nx_watch.specs.LineRun.{MayAct, force_behind}
+use Rattle.nx_watch.specs.private.LineRun.{MayAct, force_behind}
 
 -- ---- what lines give
 

@@ -17,7 +17,8 @@ use Rattle.nx_copies.specs.copies.Shares.{MarkedCopy, Starts, copies_on, share, 
 use Rattle.nx_copies.proofs.lemmas.channels.Shares.{copies_on-append, share-append, to_end-on}
 use Rattle.nx_copies.proofs.lemmas.printing.Logged.{ended_placed, printed_copies-append}
 use Rattle.nx_copies.proofs.lemmas.printing.Logged.{tagged_copies-more}
-use Rattle.nx_left_on.specs.Chain.{AreFoundOf, Ending, GoesOn, HadEnded, PrintOf, Puts, PutsBy}
+use Rattle.nx_left_on.specs.Chain.{AreFoundOf, Ending, GoesOn, HadEnded, Puts, PutsBy}
+use Rattle.nx_left_on.specs.private.Chain.{PrintOf}
 use Rattle.nx_left_on.specs.Chain.{Watch, answered, events_in, lines_of, start_in, stopped}
 use Rattle.nx_left_on.specs.Chain.{stopped_closing, with_copies}
 use Rattle.nx_left_on.proofs.lemmas.chains.Found.{begins-more, ended-begin, ended-found, one-ended}

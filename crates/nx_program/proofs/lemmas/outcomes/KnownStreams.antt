@@ -19,7 +19,7 @@ use Rattle.nx_receiver.specs.declared.air_file_runs.listen_fault.ListenFault.{Li
 use Rattle.nx_receiver.specs.declared.air_file_runs.listen_fault.ListenFault.TheVariants as listen
 use Rattle.nx_watch.specs.Acting.{most_bytes}
 use Rattle.nx_watch.specs.AnyLines.{AreLines}
-use Rattle.nx_watch.specs.Watch.{AnswersStartedBy, AnswersStop, HasWatchedBy, KeepsAll}
+use Rattle.nx_watch.specs.Watch.{AnswersStartedBy, AnswersStop, HasWatchedOverBy, KeepsAll}
 use Rattle.nx_watch.specs.Watch.{StandsForEntries, Stop, WatchDevices, at_end, back, moments_at}
 use Rattle.nx_watch.specs.Watch.{starts_at, unread, unwritten}
 use Rattle.nx_watch.specs.declared.watch_fault.WatchFault.{WatchFault}
@@ -335,7 +335,8 @@ module _ {D R W E : Type 0} (w : WatchDevices D R W E) (printing : Printing)
       absurd (omega (arith, fits, most, ap length w-in.1 ∙ length-append bytes w-in.0))
 
   all-kept : (lines : List (Option Line)) (copies : List MarkedCopy)
-      → HasWatchedBy w printing now (starts_at now entries) entries at_end lines copies
+      → HasWatchedOverBy w printing (w.tells.seen w.start w.disk)
+          now (starts_at now entries) entries at_end lines copies
       → KeepsAll w entries copies → Kept
   all-kept lines copies watched kept =
       let read = watched.read in
@@ -356,7 +357,8 @@ module _ {D R W E : Type 0} (w : WatchDevices D R W E) (printing : Printing)
 
   stopped-kept : (stop : Stop) (lines : List (Option Line)) (copies : List MarkedCopy)
       (report : WatchReport)
-      → HasWatchedBy w printing now (starts_at now entries) entries stop lines copies
+      → HasWatchedOverBy w printing (w.tells.seen w.start w.disk)
+          now (starts_at now entries) entries stop lines copies
       → KeepsAll w entries copies
       → AnswersStop (moments_at now (starts_at now entries)) stop lines copies (Ok report) → Kept
   stopped-kept at_end lines copies report watched kept answered =

@@ -11,8 +11,10 @@ use Rattle.nx_envelope.specs.Identity.{same_identity}
 use Rattle.nx_envelope.specs.declared.identity.Identity.{Identity}
 use Rattle.nx_combine.specs.CombinedPrinting.{if_printed_combined, is_printed_combined}
 use Rattle.nx_combine.specs.CopyPositions.{HeardCopy}
-use Rattle.nx_combine.specs.Families.{CombinedCopy, Family, begun_by, combined_copy, families_after}
-use Rattle.nx_combine.specs.Families.{has_family, index_joined, joined_at, joined_by, last_index}
+use Rattle.nx_combine.specs.Families.{CombinedCopy, Family, begun_by, families_after}
+use Rattle.nx_combine.specs.private.Families.{combined_copy}
+use Rattle.nx_combine.specs.Families.{has_family, joined_at, joined_by, last_index}
+use Rattle.nx_combine.specs.private.Families.{index_joined}
 use Rattle.nx_combine.specs.Families.{families_after_holding}
 use Rattle.nx_combine.specs.Judging.{Judged, all_printed, judged_after, judged_behind}
 use Rattle.nx_combine.specs.Laws.{IsWholeCopy, bears, is_named}

@@ -15,13 +15,15 @@ use Rattle.nx_copies.specs.Events.{Event, Start, elements_among, first_setting, 
 use Rattle.nx_copies.specs.copies.FoundCopies.{TaggedCopy, tag}
 use Rattle.nx_copies.specs.copies.Printing.{is_number_00}
 use Rattle.nx_copies.proofs.lemmas.locks.Found.{one_told}
-use Rattle.nx_combine.specs.CombinedPrinting.{HasPrintedCombined, PrintsCombined, PrintsCombinedToEnd}
-use Rattle.nx_combine.specs.CombinedPrinting.{printed_of_placed}
+use Rattle.nx_combine.specs.CombinedPrinting.{HasPrintedCombined, PrintsCombinedToEnd}
+use Rattle.nx_combine.specs.private.CombinedPrinting.{PrintsCombined}
+use Rattle.nx_combine.specs.private.CombinedPrinting.{printed_of_placed}
 use Rattle.nx_combine.specs.CopyPositions.{HeardCopy, PlacedCopy, ended_placed, heard_copies}
 use Rattle.nx_combine.specs.CopyPositions.{placed_to_end}
 use Rattle.nx_combine.specs.Families.{has_family, last_index, most_positions}
 use Rattle.nx_combine.specs.Judging.{Judged, all_copies, all_printed, judged_behind}
-use Rattle.nx_combine.specs.Laws.{AreHeardTogether, Arrives, IsHeardOf, IsSending}
+use Rattle.nx_combine.specs.Laws.{Arrives, IsHeardOf, IsSending}
+use Rattle.nx_combine.specs.private.Laws.{AreHeardTogether}
 use Rattle.nx_combine.specs.Laws.{IsWholeOnce, RunsOnAs, bears, text_sent}
 use Rattle.nx_combine.proofs.lemmas.Held.{index_joined-none}
 use Rattle.nx_combine.proofs.lemmas.Once.{all_printed-append, in_order, once_all, once_behind}

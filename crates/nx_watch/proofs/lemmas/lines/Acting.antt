@@ -30,7 +30,7 @@ use Rattle.nx_watch.specs.declared.lines.line_effects.LineEffects.{LineEffects}
 use Rattle.nx_watch.specs.declared.lines.line_effects.Effect.{Effect}
 use Rattle.nx_watch.specs.declared.lines.line_effects.Effect.TheVariants.{Acts, Nothing, Ends}
 use Rattle.nx_watch.specs.declared.lines.no_effect.NoEffect.TheVariants.{PastLast}
-use Rattle.nx_watch.specs.LineRun.{MayAct}
+use Rattle.nx_watch.specs.private.LineRun.{MayAct}
 use Rattle.nx_watch.specs.declared.lines.refusal.Refusal.{Refusal}
 use Rattle.nx_watch.specs.declared.lines.refusal.Refusal.TheVariants as refusal
 use Rattle.nx_watch.specs.private.Effects.{is_acting, IsAnswer, IsEffect, IsKept, KeepsMoments}

@@ -8,7 +8,7 @@ use Rattle.nx_fec.specs.air_files.Scanner.{elements_kept, kind_of, line_with}
 use Rattle.nx_fec.specs.declared.air_files.lines.LineKind.{LineKind}
 use Rattle.nx_fec.specs.declared.air_files.lines.LineKind.TheVariants as kind
 use Rattle.nx_receiver.proofs.lemmas.listening.Lines.{of-kind}
-use Rattle.nx_watch.specs.LineRun.{TakerRelation}
+use Rattle.nx_watch.specs.private.LineRun.{TakerRelation}
 use Rattle.nx_watch.specs.private.AnyReading.{SaysLine}
 use Rattle.nx_watch.specs.private.Running.{EndsRun, IsRunning, TellsFirst, ToldBeside}
 use Rattle.nx_watch.specs.private.Scanning.{IsScanning}

@@ -26,8 +26,9 @@ use Rattle.nx_watch.specs.Acting.{goes_on_behind, in_force, is_far_back, moment_
 use Rattle.nx_watch.specs.Acting.{moments_said, went_far_back, with_start}
 use Rattle.nx_watch.specs.declared.lines.line_effects.StartMoments.{StartMoments}
 use Rattle.nx_watch.specs.AnyLines.{AreLines, cut_line}
-use Rattle.nx_watch.specs.LineRun.{AnswersRun, AreCounted, HasTaken, HasTold, MayAct, RunOverLines}
-use Rattle.nx_watch.specs.LineRun.{TakerRelation, force_behind}
+use Rattle.nx_watch.specs.LineRun.{HasTold}
+use Rattle.nx_watch.specs.private.LineRun.{AnswersRun, AreCounted, HasTaken, MayAct, RunOverLines}
+use Rattle.nx_watch.specs.private.LineRun.{TakerRelation, force_behind}
 use Rattle.nx_fec.specs.Transfers.{CountedDevice}
 use Rattle.nx_kept.specs.declared.disk.DiskFile.{Ghosts as TellsOfDisk}
 use Rattle.nx_watch.specs.LinesTold.{IsFirstTold, IsReason}

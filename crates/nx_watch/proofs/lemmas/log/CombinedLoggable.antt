@@ -17,8 +17,10 @@ use Rattle.nx_combine.specs.CombinedPrinting.{combined, entry_made_combined, if_
 use Rattle.nx_combine.specs.CombinedPrinting.{is_printed_combined, printed_combined}
 use Rattle.nx_combine.specs.CopyPositions.{HeardCopy, PlacedCopy, heard_copies, placed_to_end}
 use Rattle.nx_combine.specs.Families.{CombinedCopy, Family, alone, combined as together_of}
-use Rattle.nx_combine.specs.Families.{combined_at, combined_copies, combined_copy, families_after}
-use Rattle.nx_combine.specs.Families.{given_by, has_family, index_joined, joined_by, together}
+use Rattle.nx_combine.specs.Families.{combined_at, families_after}
+use Rattle.nx_combine.specs.private.Families.{combined_copies, combined_copy}
+use Rattle.nx_combine.specs.Families.{given_by, has_family, joined_by, together}
+use Rattle.nx_combine.specs.private.Families.{index_joined}
 use Rattle.nx_combine.specs.Families.{combined_copies_holding, combined_copy_holding}
 use Rattle.nx_combine.specs.PositionEnds.{closed, ending_by, raw_text_of}
 use Rattle.nx_combine.specs.private.laws.Heard.{found_of}

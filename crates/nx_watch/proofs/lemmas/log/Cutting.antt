@@ -19,7 +19,7 @@ use Rattle.nx_log.specs.View.{IsViewOf, copy_said}
 use Rattle.nx_log.specs.declared.entries.entry.EntryView.{EntryView}
 use Rattle.nx_watch.specs.CutTold.{AreHeads, BeginsWithEntry, TellsOfSomeCut, count_told, count_told_of, cut_told, head_told}
 use Rattle.nx_watch.specs.LineRun.{HasTold}
-use Rattle.nx_watch.specs.Stamp.{note}
+use Rattle.nx_watch.specs.private.Stamp.{note}
 use Rattle.nx_watch.specs.Stamps.{notes_of}
 use Rattle.nx_watch.specs.ToldFirst.{IsNotedAsTold, TellsBeforeChange, ToldBeforeCut}
 use Rattle.nx_watch.specs.Watch.{TellsOfCut, longest_entry}

@@ -28,7 +28,8 @@ use Rattle.nx_watch.specs.Acting.{acting_lines, goes_on, most_bytes}
 use Rattle.nx_watch.specs.declared.lines.line_effects.StartMoments.{StartMoments}
 use Rattle.nx_watch.specs.Watch.{AnswersOverBy, AnswersStop, EndsAtRead, FailsWithin, FailsWrites, HadFailed, HadKept, HadWritten, HasCause, HasRead, HasWatchedOverBy, KeepsAll, KeepsSome, LeavesAtAnyMoment, PrintsLoggable, StoodOverBy, TellsOfCut}
 use Rattle.nx_watch.specs.Watch.{PrintsUntilBy, StandsForEntries, Stop, WatchDevices, at_end, back, moments_at, unread, unwritten}
-use Rattle.nx_watch.specs.LineRun.{HasTold, WereGiven}
+use Rattle.nx_watch.specs.LineRun.{HasTold}
+use Rattle.nx_watch.specs.private.LineRun.{WereGiven}
 use Rattle.nx_watch.specs.Stamp.{AreTheReads, Stamp}
 use Rattle.nx_watch.specs.declared.kept_log.keeper.Keeper.{Keeper}
 use Rattle.nx_watch.specs.declared.watch_report.WatchReport.{WatchReport}

@@ -12,7 +12,8 @@ use Rattle.nx_kept.proofs.lemmas.Stages.{joined, weaker}
 use Rattle.nx_log.specs.Entries.{IsWholeEntry}
 use Rattle.nx_receiver.proofs.lemmas.listening.Listener.{counts-on}
 use Rattle.nx_watch.specs.Watch.{longest_entry}
-use Rattle.nx_watch.specs.LineRun.{HasTold, WereGiven}
+use Rattle.nx_watch.specs.LineRun.{HasTold}
+use Rattle.nx_watch.specs.private.LineRun.{WereGiven}
 use Rattle.nx_watch.specs.private.Entries.{entry_some}
 use Rattle.nx_watch.specs.private.Keeping.{AllKept, HasKept, HasKeptSo, KeepsTexts, LeavesFirst, SomeKept, StandsForFirst, StandsForTexts, keeper_since}
 use Rattle.nx_kept.specs.declared.log.KeptLog.{KeptLog}

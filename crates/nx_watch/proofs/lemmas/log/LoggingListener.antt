@@ -38,7 +38,7 @@ use Rattle.nx_watch.proofs.lemmas.lines.Run.{in_force-append}
 use Rattle.nx_watch.proofs.lemmas.lines.Starting.{moments_said-more}
 use Rattle.nx_watch.proofs.lemmas.log.Loggable.{AreInRange, given-logged}
 use Rattle.nx_watch.specs.Acting.{in_force, moment_said, moments_said}
-use Rattle.nx_watch.specs.LineRun.{MayAct, force_behind}
+use Rattle.nx_watch.specs.private.LineRun.{MayAct, force_behind}
 use Rattle.nx_watch.specs.Watch.{PrintsLoggable}
 use Rattle.nx_watch.specs.private.Keeping.{HasKept, KeepsWith}
 use Rattle.nx_watch.specs.private.LoggingListener.{IsCopyInRange, IsLineInRange, KeepsHeard, KeepsLines, LoggingOver, LoggingTo, TakesLines, logging_to}

@@ -15,7 +15,7 @@ use Rattle.nx_receiver.specs.ChannelReceiver.{ReceiverKind}
 use Rattle.nx_watch.specs.Acting.{acting_behind, acting_lines, acts, moment_said, moments_behind}
 use Rattle.nx_watch.specs.Acting.{with_start}
 use Rattle.nx_watch.specs.AnyLines.{AreLines, Says, ended}
-use Rattle.nx_watch.specs.LineRun.{HasTaken}
+use Rattle.nx_watch.specs.private.LineRun.{HasTaken}
 use Rattle.nx_watch.specs.Stamp.{AreTheReads, LastGaveNone, Stamp, stamp}
 use Rattle.nx_watch.specs.declared.lines.line_effects.LineEffects.{LineEffects}
 use Rattle.nx_watch.specs.declared.lines.line_effects.StartMoments.{StartMoments}

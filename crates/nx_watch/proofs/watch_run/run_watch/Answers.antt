@@ -9,7 +9,8 @@ use Rattle.nx_receiver.specs.Listener.{HearsBy, ListeningOver, starts_by}
 use Rattle.nx_watch.specs.Acting.{acting_lines, moments_behind, most_bytes}
 use Rattle.nx_watch.specs.AnyLines.{cut_line}
 use Rattle.nx_watch.specs.Watch.{AnswersStop, PrintsLoggable, at_end, back, unread, unwritten}
-use Rattle.nx_watch.specs.LineRun.{AnswersRun, HasTold, RunOverLines, TellsOfLines}
+use Rattle.nx_watch.specs.LineRun.{HasTold, TellsOfLines}
+use Rattle.nx_watch.specs.private.LineRun.{AnswersRun, RunOverLines}
 use Rattle.nx_watch.specs.Stamps.{counted_of, stamps_of}
 use Rattle.nx_watch.specs.CutTold.{TellsOfSomeCut}
 use Rattle.nx_watch.specs.LinesTold.{IsToldAtEnd}

@@ -1,5 +1,5 @@
 use Rattle.std.proofs.Common.{◌++◌, ◌∷◌, [], None, append-nil, subst, sym}
-use Rattle.nx_watch.specs.LineRun.{AreCounted}
+use Rattle.nx_watch.specs.private.LineRun.{AreCounted}
 use Rattle.nx_watch.specs.private.Running.{HasToldLines}
 use Rattle.nx_watch.specs.private.Scanning.{CutsAs}
 use Rattle.nx_watch.proofs.lemmas.lines.Run.{ends-input}

@@ -1,6 +1,6 @@
 use Rattle.std.proofs.Common.{◌++◌, ◌∙◌, ap, subst, sym}
 use Rattle.nx_watch.specs.Acting.{moments_behind}
-use Rattle.nx_watch.specs.LineRun.{force_behind}
+use Rattle.nx_watch.specs.private.LineRun.{force_behind}
 use Rattle.nx_watch.specs.private.Effects.{IsAnswer, acting_and_set}
 use Rattle.nx_watch.specs.private.LoggingListener.{TakesLines, logging_to}
 use Rattle.nx_watch.proofs.lemmas.lines.Acting.{acts-taken, idle-refused}

@@ -6,7 +6,7 @@ use Rattle.nx_receiver.specs.Commands.{said}
 use Rattle.nx_receiver.specs.air_file_runs.Listen.{given_by}
 use Rattle.nx_receiver.specs.Listener.{starts_by}
 use Rattle.nx_receiver.proofs.lemmas.listening.Lines.{kind-gives}
-use Rattle.nx_watch.specs.LineRun.{MayAct, force_behind}
+use Rattle.nx_watch.specs.private.LineRun.{MayAct, force_behind}
 use Rattle.nx_watch.specs.private.LoggingListener.{TakesLines, logging_to}
 use Rattle.nx_receiver.proofs.lemmas.listening.Lines.{kind-with}
 use Rattle.nx_watch.proofs.lemmas.log.LoggingListener.{next-command, spared, with_listener}

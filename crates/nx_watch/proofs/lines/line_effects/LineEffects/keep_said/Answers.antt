@@ -1,7 +1,7 @@
 use Rattle.std.proofs.Common.{◌++◌, ◌∙◌, [], Some, append-nil, ap, subst, sym}
 use Rattle.nx_fec.specs.air_files.AirFile.{Line}
 use Rattle.nx_watch.specs.Acting.{in_force}
-use Rattle.nx_watch.specs.LineRun.{MayAct}
+use Rattle.nx_watch.specs.private.LineRun.{MayAct}
 use Rattle.nx_watch.specs.private.Effects.{KeepsMoments, said_behind, set_by}
 use Rattle.nx_watch.proofs.lemmas.lines.Acting.{moment-kind, said-in, taken-near}
 use Rattle.nx_watch.proofs.lines.line_effects.LineEffects.keep_said.Goals as goal

@@ -1,0 +1,2 @@
+-- What only private contracts, models and proofs cite.
+pub mod Chain
