@@ -3,7 +3,6 @@ pub mod Entries
 pub mod Fronts
 pub mod Gaps
 pub mod Heads
-pub mod Numbers
 pub mod Parts
 pub mod Pieces
 pub mod Reads

@@ -1,6 +1,6 @@
 //! An entry of a log, read back.
 
-ghost use Rattle.std.specs.Prelude.{◌≡◌, ◌≢◌, ◌↔◌, ℕ, ◌+◌, ◌<◌, ◌≤◌, List, [], ◌∷◌, ◌++◌, IfErr, IfNone, IfOk, IfSome, IsTrue};
+ghost use Rattle.std.specs.Prelude.{◌≡◌, ◌≢◌, ◌↔◌, ℕ, ◌+◌, ◌<◌, ◌≤◌, List, [], ◌∷◌, ◌++◌, All, IfErr, IfNone, IfOk, IfSome, IsTrue};
 ghost use Rattle.nx_envelope.specs.Copies.{errors_of};
 ghost use Rattle.nx_copies.specs.copies.Shares.{MarkedCopy};
 ghost use Rattle.nx_log.specs.Entries.{IsWholeEntry};
@@ -66,21 +66,49 @@ fn text_at(bytes: &[u8], errors: u16, characters: u16) -> Result<(&[u8], &[u8]),
     ensures lacks { IfErr result (λ lack.
         Lacks (Spells (IsTextOf errors characters)) bytes.now lack) }
 {
-    let len = usize::from(characters);
-    let (mut errors, mut characters) = (usize::from(errors), len);
+    let (errors, characters) = (usize::from(errors), usize::from(characters));
+    match whole_text(bytes, errors, characters) {
+        Some(found) => Ok(found),
+        None => Err(text_lack(bytes, errors, characters)),
+    }
+}
+
+/// Such a text, where the bytes begin with one. It is judged as a whole, which takes less than byte
+/// by byte.
+fn whole_text(bytes: &[u8], errors: usize, characters: usize) -> Option<(&[u8], &[u8])>
+    ensures found { IfSome result (λ found. (bytes.now ≡ found.0.now ++ found.1.now)
+        × IsTextOf errors characters found.0.now found.0.now) }
+    ensures none { IfNone result ((text more : List ℕ) → IsTextOf errors characters text text
+        → bytes.now ≢ text ++ more) }
+{
+    match bytes.split_at_checked(characters) {
+        Some((text, rest)) if is_text(text) && errors_in(text) == errors => Some((text, rest)),
+        Some(_) => None,
+        None => None,
+    }
+}
+
+/// What bytes lack of such a text that begin with none.
+fn text_lack(bytes: &[u8], errors: usize, characters: usize) -> Lack<'_>
+    requires fits { errors ≤ characters }
+    requires none { (text more : List ℕ) → IsTextOf errors characters text text
+        → bytes.now ≢ text ++ more }
+    ensures { Lacks (Spells (IsTextOf errors characters)) bytes.now result }
+{
+    let (mut lacking, mut left) = (errors, characters);
     let mut rest = bytes;
-    while characters > 0 {
+    while left > 0 {
         let Some((byte, behind)) = rest.split_first() else {
-            return Err(Lack::Unfinished);
+            return Lack::Unfinished;
         };
-        if !fits_text(*byte, errors, characters) {
-            return Err(Lack::Broken(rest));
+        if !fits_text(*byte, lacking, left) {
+            return Lack::Broken(rest);
         }
-        errors -= usize::from(*byte == b'*');
-        characters -= 1;
+        lacking -= usize::from(*byte == b'*');
+        left -= 1;
         rest = behind;
     }
-    Ok((&bytes[..len], rest))
+    unreachable!()
 }
 
 /// Whether a byte may stand where a text lacks so many errors, and no fewer characters.
@@ -112,10 +140,24 @@ pub(crate) fn whole_entry(bytes: &[u8]) -> EntryView
     }
 }
 
+/// Whether each byte may stand in a text.
+fn is_text(text: &[u8]) -> bool
+    ensures { IsTrue result ↔ All (λ byte. IsTrue (the_is_text_byte byte)) text.now }
+{
+    text.iter().all(|byte| is_text_byte(*byte))
+}
+
 /// Whether a byte may stand in a text: it is a character of the code, or an asterisk.
 #[tactic(auto, unfolding(crate::specs::Logged::is_text_byte))]
 fn is_text_byte(byte: u8) -> bool
     ensures { result ≡ the_is_text_byte byte }
 {
     char_to_code(byte).is_some() || byte == b'*'
+}
+
+/// How many asterisks a text has.
+fn errors_in(text: &[u8]) -> usize
+    ensures { result ≡ errors_of text.now }
+{
+    text.iter().filter(|byte| **byte == b'*').count()
 }

@@ -97,7 +97,8 @@ one_less n v few small f = elim (last_of f.more) [
         | inr more ↦
             let ten : 10 ≤ n = omega arith in
             let step = decimal_step n ten (omega arith) in
-            let tenth_long = ap length step ∙ length-append (decimal (n / 10)) ((48 + n % 10) ∷ []) in
+            let tenth_long = ap length step
+            ∙ length-append (decimal (n / 10)) ((48 + n % 10) ∷ []) in
             inr (
               ten,
               record {

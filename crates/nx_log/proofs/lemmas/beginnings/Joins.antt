@@ -4,10 +4,7 @@ use Rattle.std.proofs.lemmas.List.{append_cancel_left, append_cancel_right}
 use Rattle.nx_log.specs.private.Stages.{BreakOff, CanEnd, Joined, Lacks, NeverBegin, Spells}
 use Rattle.nx_log.specs.declared.entries.lack.Lack.{Lack}
 use Rattle.nx_log.specs.declared.entries.lack.Lack.TheVariants.{Unfinished, Broken}
-
-pub left_nil : (xs ys : List ℕ) → xs ++ ys ≡ [] → xs ≡ []
-left_nil [] ys e = refl
-left_nil (x ∷ xs) ys e = absurd (cc)
+use Rattle.nx_log.proofs.lemmas.beginnings.Lists.{left_nil}
 
 -- behind some bytes each piece goes on to one of these, and each of these has a piece there
 module _ (piece is : List ℕ → Type 0) (front : List ℕ)

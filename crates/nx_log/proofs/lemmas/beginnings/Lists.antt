@@ -23,7 +23,16 @@ pub no_elements : (xs : List ℕ) → length xs ≡ 0 → xs ≡ []
 no_elements [] h = refl
 no_elements (x ∷ xs) h = absurd (omega (arith, h))
 
--- so does one that isn't longer
+-- what is empty has no elements in front, and none behind
+pub left_nil : (xs ys : List ℕ) → xs ++ ys ≡ [] → xs ≡ []
+left_nil [] ys e = refl
+left_nil (x ∷ xs) ys e = absurd (cc)
+
+pub right_nil : (xs ys : List ℕ) → xs ++ ys ≡ [] → ys ≡ []
+right_nil [] ys e = e
+right_nil (x ∷ xs) ys e = absurd (cc)
+
+-- of two lists that begin one list, one that isn't longer begins the other
 pub shorter_first : (xs ys x y : List ℕ) → length xs ≤ length ys → xs ++ x ≡ ys ++ y → Extends xs ys
 shorter_first xs ys x y short e = elim (one_extends xs ys x y e) [
   | inl f ↦ f

@@ -33,7 +33,7 @@ use Rattle.nx_log.proofs.lemmas.reading.Pieces.{same_mark, same_name, same_decim
 
 -- ---- each stage can be begun, so that a part of a piece can go on
 
-some_text : (errors characters : ℕ) → errors ≤ characters
+pub some_text : (errors characters : ℕ) → errors ≤ characters
     → (rest : List ℕ) × FromText errors characters rest
 some_text errors characters enough =
     let text = text_goes_on [] errors characters characters errors
@@ -41,27 +41,27 @@ some_text errors characters enough =
     some_joined (IsTextOf errors characters) IsBehindText text.0 text.0 text.2
     (missing_newline text.0 ++ newline ∷ [], refl)
 
-some_newline : (errors characters : ℕ) → errors ≤ characters
+pub some_newline : (errors characters : ℕ) → errors ≤ characters
     → (rest : List ℕ) × FromNewline errors characters rest
 some_newline errors characters enough =
     some_joined IsNewline (λ none. FromText errors characters) tt (newline ∷ []) refl
     (some_text errors characters enough)
 
-some_characters : (errors : ℕ) → errors ≤ 4100 → (rest : List ℕ) × FromCharacters errors rest
+pub some_characters : (errors : ℕ) → errors ≤ 4100 → (rest : List ℕ) × FromCharacters errors rest
 some_characters errors few =
     some_joined (IsCount errors 93) (FromNewline errors) errors (decimal errors ++ 93 ∷ [])
     (record { enough = omega arith; few = few; is_spelled = refl })
     (some_newline errors errors (omega arith))
 
-some_errors : (rest : List ℕ) × FromErrors rest
+pub some_errors : (rest : List ℕ) × FromErrors rest
 some_errors = some_joined (IsCount 0 47) FromCharacters 0 (decimal 0 ++ 47 ∷ [])
     (record { enough = lit≤ tt; few = lit≤ tt; is_spelled = refl }) (some_characters 0 (lit≤ tt))
 
-some_end : (rest : List ℕ) × FromEnd rest
+pub some_end : (rest : List ℕ) × FromEnd rest
 some_end =
     some_joined IsEnd (λ how. FromErrors) Full (how_name Full ++ 32 ∷ []) refl some_errors
 
-first_time : (rest : List ℕ) × FromTime rest
+pub first_time : (rest : List ℕ) × FromTime rest
 first_time =
     let time = some_time.1.1 in
     some_joined IsTime (λ moment. FromEnd) some_time.1.0 (some_time.0 ++ 32 ∷ []) (record {
@@ -71,7 +71,7 @@ first_time =
       is_spelled = refl;
     }) some_end
 
-some_mark : (rest : List ℕ) × FromMark rest
+pub some_mark : (rest : List ℕ) × FromMark rest
 some_mark =
     some_joined IsMark (λ channel. FromTime) Zero (channel_mark Zero ++ 32 ∷ []) refl first_time
 
@@ -189,28 +189,6 @@ module _ (bytes : List ℕ) (lack : Lack) where
 
   -- where the piece isn't whole
 
-  pub within_name : Lacks (Spells IsName) bytes lack → Lacks FromName bytes lack
-  within_name = lacks_within IsName (λ i. FromMark) bytes lack (λ identity t is. some_mark)
-
-  pub within_mark : Lacks (Spells IsMark) bytes lack → Lacks FromMark bytes lack
-  within_mark = lacks_within IsMark (λ c. FromTime) bytes lack (λ channel t is. first_time)
-
-  pub within_time : Lacks (Spells IsTime) bytes lack → Lacks FromTime bytes lack
-  within_time = lacks_within IsTime (λ m. FromEnd) bytes lack (λ moment t is. some_end)
-
-  pub within_end : Lacks (Spells IsEnd) bytes lack → Lacks FromEnd bytes lack
-  within_end = lacks_within IsEnd (λ h. FromErrors) bytes lack (λ how t is. some_errors)
-
-  pub within_errors : Lacks (Spells (IsCount 0 47)) bytes lack → Lacks FromErrors bytes lack
-  within_errors =
-      lacks_within (IsCount 0 47) FromCharacters bytes lack (λ n t is. some_characters n is.few)
-
-  pub within_characters : (errors : ℕ) → Lacks (Spells (IsCount errors 93)) bytes lack
-      → Lacks (FromCharacters errors) bytes lack
-  within_characters errors =
-      lacks_within (IsCount errors 93) (FromNewline errors) bytes lack
-      (λ n t is. some_newline errors n is.enough)
-
   pub within_newline : (errors n : ℕ) → errors ≤ n
       → Lacks (λ spelled. spelled ≡ newline ∷ []) bytes lack
       → Lacks (FromNewline errors n) bytes lack
@@ -219,12 +197,6 @@ module _ (bytes : List ℕ) (lack : Lack) where
       (λ piece t is. some_text errors n enough)
       (lacks_same (λ spelled. spelled ≡ newline ∷ []) (Spells IsNewline) bytes lack
       (λ spelled is. (tt, is)) (λ spelled is. is.1) l)
-
-  pub within_text : (errors n : ℕ) → Lacks (Spells (IsTextOf errors n)) bytes lack
-      → Lacks (FromText errors n) bytes lack
-  within_text errors n =
-      lacks_within (IsTextOf errors n) IsBehindText bytes lack
-      (λ text t is. (missing_newline text ++ newline ∷ [], refl))
 
 -- behind a head
 pub behind_head : (bytes rest : List ℕ) (head : LoggedHead) (lack : Lack)

@@ -162,22 +162,14 @@ module _ (bytes rest : List ℕ) (errors characters lacking left : ℕ)
           letter_at xs b ys (λ k d small. h (suc k) d (omega (arith, small)))
 
   -- all of it
-  pub text_whole : (text : List ℕ) → left ≡ 0 → text ≡ take characters bytes
-      → (bytes ≡ text ++ rest) × IsTextOf errors characters text text
-  text_whole text none is =
+  pub text_whole : left ≡ 0 → IsTextOf errors characters r.done r.done
+  text_whole none =
       let has_errors = r.has_errors in
       let has_characters = r.has_characters in
       let fits = r.fits in
-      let long : characters ≡ length r.done = omega arith in
-      let same : text ≡ r.done = is ∙ ap (λ n. take n bytes) long
-      ∙ ap (take (length r.done)) r.split
-      ∙ take-append-le (length r.done) r.done rest (omega arith)
-      ∙ take_all (length r.done) r.done (omega arith) in (
-        r.split ∙ ap (λ l. l ++ rest) (sym same),
-        record {
-          letters = subst AreLetters (sym same) r.letters;
-          has_errors = ap errors_of same ∙ omega arith;
-          has_characters = ap length same ∙ sym long;
-          is_spelled = refl;
-        },
-      )
+      record {
+        letters = r.letters;
+        has_errors = omega arith;
+        has_characters = omega arith;
+        is_spelled = refl;
+      }

@@ -235,29 +235,29 @@ to_time text century =
 
 -- ---- each can be begun
 
-some_second : (rest : List ℕ) × FromSecond rest
+pub some_second : (rest : List ℕ) × FromSecond rest
 some_second = (codes ":00", (0, number (codes ":") 0 59 0 (lit≤ tt) (lit≤ tt)))
 
-some_minute : (rest : List ℕ) × FromMinute rest
+pub some_minute : (rest : List ℕ) × FromMinute rest
 some_minute = some_joined (IsNumber (codes ":") 0 59) (λ minute. FromSecond) 0 (codes ":00")
     (number (codes ":") 0 59 0 (lit≤ tt) (lit≤ tt)) some_second
 
-some_hour : (rest : List ℕ) × FromHour rest
+pub some_hour : (rest : List ℕ) × FromHour rest
 some_hour = some_joined (IsNumber (codes " ") 0 23) (λ hour. FromMinute) 0 (codes " 00")
     (number (codes " ") 0 23 0 (lit≤ tt) (lit≤ tt)) some_minute
 
-some_day : (year month : ℕ) → (rest : List ℕ) × FromDay year month rest
+pub some_day : (year month : ℕ) → (rest : List ℕ) × FromDay year month rest
 some_day year month =
     let most = days_in_month (pos year) month in
     let bounds = days_in_month_bounds (pos year) month in
     some_joined (IsNumber (codes "-") 1 most) (λ day. FromHour) 1 (codes "-01")
     (number (codes "-") 1 most 1 (lit≤ tt) (omega (arith, bounds))) some_hour
 
-some_month : (year : ℕ) → (rest : List ℕ) × FromMonth year rest
+pub some_month : (year : ℕ) → (rest : List ℕ) × FromMonth year rest
 some_month year = some_joined (IsNumber (codes "-") 1 12) (FromDay year) 1 (codes "-01")
     (number (codes "-") 1 12 1 (lit≤ tt) (lit≤ tt)) (some_day year 1)
 
-some_year : (century : ℕ) → (rest : List ℕ) × FromYear century rest
+pub some_year : (century : ℕ) → (rest : List ℕ) × FromYear century rest
 some_year century =
     some_joined (IsNumber [] (year_from century) 99) (λ year. FromMonth (century * 100 + year)) 70
     (codes "70") (number [] (year_from century) 99 70 (grind arith) (lit≤ tt))
@@ -293,74 +293,9 @@ behind_number before least most rest_is bytes lack n rest range e =
     ∙ append_assoc before (two_digits other) y)) in
     (one.1, λ l f. subst (λ k. rest_is k l) (sym one.0) f))
 
-module _ (bytes : List ℕ) (lack : Lack) where
-  pub lacks_time : Lacks FromCentury bytes lack → Lacks (Spells IsCivilTime) bytes lack
-  lacks_time = lacks_same FromCentury (Spells IsCivilTime) bytes lack to_time from_time
-
-  pub within_century : Lacks (Spells (IsNumber [] 19 29)) bytes lack → Lacks FromCentury bytes lack
-  within_century =
-      lacks_within (IsNumber [] 19 29) FromYear bytes lack (λ century t is. some_year century)
-
-  pub within_year : (century : ℕ) → Lacks (Spells (IsNumber [] (year_from century) 99)) bytes lack
-      → Lacks (FromYear century) bytes lack
-  within_year century = lacks_within (IsNumber [] (year_from century) 99)
-      (λ year. FromMonth (century * 100 + year)) bytes lack
-      (λ year t is. some_month (century * 100 + year))
-
-  pub within_month : (year : ℕ) → Lacks (Spells (IsNumber (codes "-") 1 12)) bytes lack
-      → Lacks (FromMonth year) bytes lack
-  within_month year = lacks_within (IsNumber (codes "-") 1 12) (FromDay year) bytes lack
-      (λ month t is. some_day year month)
-
-  pub within_day : (year month : ℕ)
-      → Lacks (Spells (IsNumber (codes "-") 1 (days_in_month (pos year) month))) bytes lack
-      → Lacks (FromDay year month) bytes lack
-  within_day year month = lacks_within (IsNumber (codes "-") 1 (days_in_month (pos year) month))
-      (λ day. FromHour) bytes lack (λ day t is. some_hour)
-
-  pub within_hour : Lacks (Spells (IsNumber (codes " ") 0 23)) bytes lack
-      → Lacks FromHour bytes lack
-  within_hour = lacks_within (IsNumber (codes " ") 0 23) (λ hour. FromMinute) bytes lack
-      (λ hour t is. some_minute)
-
-  pub within_minute : Lacks (Spells (IsNumber (codes ":") 0 59)) bytes lack
-      → Lacks FromMinute bytes lack
-  within_minute = lacks_within (IsNumber (codes ":") 0 59) (λ minute. FromSecond) bytes lack
-      (λ minute t is. some_second)
-
-  pub behind_century : (n : ℕ) (rest : List ℕ) → (19 ≤ n) × (n ≤ 29)
-      → bytes ≡ two_digits n ++ rest → Lacks (FromYear n) rest lack → Lacks FromCentury bytes lack
-  behind_century n rest = behind_number [] 19 29 FromYear bytes lack n rest
-
-  pub behind_year : (century n : ℕ) (rest : List ℕ) → (year_from century ≤ n) × (n ≤ 99)
-      → bytes ≡ two_digits n ++ rest → Lacks (FromMonth (century * 100 + n)) rest lack
-      → Lacks (FromYear century) bytes lack
-  behind_year century n rest = behind_number [] (year_from century) 99
-      (λ year. FromMonth (century * 100 + year)) bytes lack n rest
-
-  pub behind_month : (year n : ℕ) (rest : List ℕ) → (1 ≤ n) × (n ≤ 12)
-      → bytes ≡ codes "-" ++ (two_digits n ++ rest) → Lacks (FromDay year n) rest lack
-      → Lacks (FromMonth year) bytes lack
-  behind_month year n rest = behind_number (codes "-") 1 12 (FromDay year) bytes lack n rest
-
-  pub behind_day : (year month n : ℕ) (rest : List ℕ)
-      → (1 ≤ n) × (n ≤ days_in_month (pos year) month)
-      → bytes ≡ codes "-" ++ (two_digits n ++ rest) → Lacks FromHour rest lack
-      → Lacks (FromDay year month) bytes lack
-  behind_day year month n rest = behind_number (codes "-") 1 (days_in_month (pos year) month)
-      (λ day. FromHour) bytes lack n rest
-
-  pub behind_hour : (n : ℕ) (rest : List ℕ) → (0 ≤ n) × (n ≤ 23)
-      → bytes ≡ codes " " ++ (two_digits n ++ rest) → Lacks FromMinute rest lack
-      → Lacks FromHour bytes lack
-  behind_hour n rest =
-      behind_number (codes " ") 0 23 (λ hour. FromMinute) bytes lack n rest
-
-  pub behind_minute : (n : ℕ) (rest : List ℕ) → (0 ≤ n) × (n ≤ 59)
-      → bytes ≡ codes ":" ++ (two_digits n ++ rest) → Lacks FromSecond rest lack
-      → Lacks FromMinute bytes lack
-  behind_minute n rest =
-      behind_number (codes ":") 0 59 (λ minute. FromSecond) bytes lack n rest
+pub lacks_time : (bytes : List ℕ) (lack : Lack) → Lacks FromCentury bytes lack
+    → Lacks (Spells IsCivilTime) bytes lack
+lacks_time bytes lack = lacks_same FromCentury (Spells IsCivilTime) bytes lack to_time from_time
 
 -- what is a civil time lacks nothing of one
 pub not_lacked : (bytes : List ℕ) (lack : Lack) → Lacks (Spells IsCivilTime) bytes lack

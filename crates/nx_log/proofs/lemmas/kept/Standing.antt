@@ -13,6 +13,7 @@ use Rattle.nx_log.specs.declared.entries.kept_reader.KeptReader.{KeptReader}
 use Rattle.nx_log.specs.declared.entries.kept_reader.KeptStage.{KeptStage}
 use Rattle.nx_log.specs.declared.entries.kept_reader.KeptStage.TheVariants.{Closed, Gate, Open}
 use Rattle.nx_log.proofs.lemmas.reading.Entries.{entry_bounded, entry_is_some, one_entry}
+use Rattle.nx_log.proofs.lemmas.beginnings.Lists.{right_nil}
 
 -- ---- logged entries are records
 
@@ -140,11 +141,7 @@ none_in_begun held entry more (inr begun) split whole =
     let longer : IsWholeEntry (entry ++ (more ++ begun.0)) =
     subst IsWholeEntry
     (ap (λ l. l ++ begun.0) split ∙ append_assoc entry more begun.0) begun.1 in
-    begun.2 (last more begun.0 (whole_one entry (more ++ begun.0) whole longer))
-  where
-    last : (xs ys : List ℕ) → xs ++ ys ≡ [] → ys ≡ []
-    last [] ys e = e
-    last (x ∷ xs) ys e = absurd (cc)
+    begun.2 (right_nil more begun.0 (whole_one entry (more ++ begun.0) whole longer))
 
 pub open_none : (gate : ℕ) (held : List ℕ) → IsBegun held → NoEntryStands (gate ∷ held)
 open_none gate held begun = λ g entry more split whole.

@@ -19,12 +19,10 @@ use Rattle.nx_log.specs.declared.entries.start.EntryStart.TheVariants.{Broken, W
 use Rattle.nx_log.specs.declared.writing.places.Places.{Places}
 use Rattle.nx_log.proofs.lemmas.kept.Damage.{stops_broken, stops_early, stops_long}
 use Rattle.nx_log.proofs.lemmas.kept.Standing.{placed_more, whole_one, whole_some}
+use Rattle.nx_log.proofs.lemmas.beginnings.Lists.{right_nil}
+use Rattle.nx_log.proofs.lemmas.reader.Steps.{take_over}
 
 -- ---- what is held of an entry
-
-last_none : (xs ys : List ℕ) → xs ++ ys ≡ [] → ys ≡ []
-last_none [] ys e = e
-last_none (x ∷ xs) ys e = absurd (cc)
 
 -- some first of a beginning is one
 begun_front : (held : List ℕ) (n : ℕ) → IsUnfinishedEntry held → IsUnfinishedEntry (take n held)
@@ -33,7 +31,7 @@ begun_front held n begun = (
   subst IsWholeEntry
       (ap (λ l. l ++ begun.0) (sym (take-append-drop n held))
       ∙ append_assoc (take n held) (drop n held) begun.0) begun.1,
-  λ none. begun.2 (last_none (drop n held) begun.0 none),
+  λ none. begun.2 (right_nil (drop n held) begun.0 none),
 )
 
 -- what is held isn't whole yet
@@ -63,13 +61,6 @@ begun_unbroken held bytes n (inr begun) broken = elim (cases_lt n (length held))
       absurd (broken (subst IsUnfinishedEntry (sym front) (begun_front held (n + 1) begun)))
 ]
 
--- what is held and some of what comes
-held_and : (held bytes : List ℕ) (n : ℕ) → length held ≤ n
-    → take n (held ++ bytes) ≡ held ++ take (n - length held) bytes
-held_and held bytes n few =
-    let size : length held + (n - length held) ≡ n = omega (arith, few) in
-    ap (λ k. take k (held ++ bytes)) (sym size) ∙ take_past held bytes (n - length held)
-
 -- what was given, and some of what comes, behind an open gate
 given_and : (given front held bytes : List ℕ) (gate n : ℕ) → given ≡ front ++ gate ∷ held
     → length held ≤ n
@@ -77,7 +68,7 @@ given_and : (given front held bytes : List ℕ) (gate n : ℕ) → given ≡ fro
 given_and given front held bytes gate n split few =
     ap (λ l. l ++ take (n - length held) bytes) split
     ∙ append_assoc front (gate ∷ held) (take (n - length held) bytes)
-    ∙ ap (λ l. front ++ gate ∷ l) (sym (held_and held bytes n few))
+    ∙ ap (λ l. front ++ gate ∷ l) (sym (take_over held bytes n few))
 
 -- places are two numbers
 same_places : (places : Places) (place : ℕ) (entry : List ℕ) → places.place ≡ place

@@ -8,6 +8,7 @@ use Rattle.nx_log.specs.declared.entries.start.EntryStart.TheVariants.{Whole, Un
 use Rattle.nx_log.specs.private.Steps.{part_held}
 use Rattle.nx_log.proofs.lemmas.reading.Entries.{entry_bounded}
 use Rattle.nx_log.proofs.lemmas.reader.Begun.{said_of_all, unfinished_short}
+use Rattle.nx_log.proofs.lemmas.beginnings.Lists.{no_elements}
 
 -- what is held is no longer than the longest entry
 pub part_short : (bytes : List ℕ) (start : EntryStart) → StartsAs bytes start
@@ -26,13 +27,10 @@ said_of_window held bytes fitting room start is sum s =
     ∙ ap (λ l. held ++ l) (take-append-drop fitting bytes))
     (said_of_all (held ++ take fitting bytes) (drop fitting bytes) start s all_or_full)
   where
-    nothing : (xs : List ℕ) → length xs ≡ 0 → xs ≡ []
-    nothing [] e = refl
-    nothing (x ∷ xs) e = absurd (omega (arith, e))
-
     all_or_full : (drop fitting bytes ≡ []) ⊎ (length (held ++ take fitting bytes) ≡ 4146)
     all_or_full = elim (cases_lt room (length bytes)) [
-      | inr fits ↦ inl (nothing (drop fitting bytes) (omega (arith, is, length-drop fitting bytes)))
+      | inr fits ↦ inl (no_elements (drop fitting bytes)
+          (omega (arith, is, length-drop fitting bytes)))
       | inl full ↦ inr
           (omega (
             arith,

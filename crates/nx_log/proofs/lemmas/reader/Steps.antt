@@ -33,6 +33,8 @@ use Rattle.nx_log.proofs.lemmas.reading.Fronts.{not_nil}
 use Rattle.nx_log.proofs.lemmas.reading.Parts.{unfinished_front}
 use Rattle.nx_log.proofs.lemmas.reading.Brackets.{entry_bracket, unfinished_bracket}
 use Rattle.nx_log.proofs.lemmas.reading.Parts.{last_bracket, not_in_two, same_head, same_read}
+use Rattle.nx_log.proofs.lemmas.beginnings.Lists.{left_nil}
+use Rattle.nx_kept.proofs.lemmas.Pieces.{take_past}
 
 -- ---- what a tail stands for is one
 
@@ -244,20 +246,12 @@ not_torn head tail before front bytes reach torn same s none =
 
 -- ---- what stands behind a tail that was passed
 
-pub take-both : (front back : List ℕ) (n : ℕ)
-    → take (length front + n) (front ++ back) ≡ front ++ take n back
-take-both [] back n =
-    let e : 0 + n ≡ n = omega arith in ap (λ k. take k back) e
-take-both (x ∷ front) back n =
-    let e : length (x ∷ front) + n ≡ suc (length front + n) = omega arith in
-    ap (λ k. take k (x ∷ (front ++ back))) e ∙ ap (λ l. x ∷ l) (take-both front back n)
-
 -- the first bytes of a whole, where they are longer than its front
 pub take_over : (front back : List ℕ) (n : ℕ) → length front ≤ n
     → take n (front ++ back) ≡ front ++ take (n - length front) back
 take_over front back n longer =
     let e : n ≡ length front + (n - length front) = omega arith in
-    ap (λ k. take k (front ++ back)) e ∙ take-both front back (n - length front)
+    ap (λ k. take k (front ++ back)) e ∙ take_past front back (n - length front)
 
 -- the first bytes and the one behind them
 pub take_behind : (bytes : List ℕ) (count byte : ℕ) (more : List ℕ)
@@ -495,10 +489,10 @@ module _ (tail : Tail) (line : ℕ) (given : List ℕ) (entries : List MarkedCop
     stops bad end at_line none =
         let n = length given + passed.count in
         let front : take n (given ++ bytes) ≡ given ++ take passed.count bytes =
-        take-both given bytes passed.count in
+        take_past given bytes passed.count in
         let longer : take (n + 1) (given ++ bytes) ≡ given ++ take (passed.count + 1) bytes =
         ap (λ k. take k (given ++ bytes)) (omega arith)
-        ∙ take-both given bytes (passed.count + 1) in
+        ∙ take_past given bytes (passed.count + 1) in
         let last = take (passed.count + 1) bytes in
         let whole : given ++ last ≡ at.before.bytes ++ (at.front ++ (at.behind ++ last)) =
         ap (λ l. l ++ last) at.split
@@ -863,7 +857,7 @@ behind_at reader bytes entries told tail piece at stage =
       split = l.split;
       is_part = l.is_part;
       is_head = more_comes (is_first at.earlier) l.head l.front l.behind st.1 l.is_head;
-      some = λ b none. st.1 b (no_front l.behind piece none);
+      some = λ b none. st.1 b (left_nil l.behind piece none);
       is_torn = st.0;
       stands = (l.torn, st.2);
       are_entries = at.are_entries;
@@ -871,10 +865,6 @@ behind_at reader bytes entries told tail piece at stage =
       line_is = at.line;
     }
   where
-    no_front : (xs ys : List ℕ) → xs ++ ys ≡ [] → xs ≡ []
-    no_front [] ys e = refl
-    no_front (x ∷ xs) ys e = absurd (omega (arith, ap length e))
-
     longest_more : (front behind : List ℕ) → behind ≢ [] → IsLongest front behind
         → IsLongest front (behind ++ piece)
     longest_more front [] some longest = absurd (some refl)

@@ -21,7 +21,7 @@ use Rattle.std.proofs.lemmas.Bool.{and_from}
 use Rattle.std.proofs.lemmas.List.{append_cancel_left}
 use Rattle.nx_envelope.specs.declared.identity.Identity.{Identity}
 use Rattle.nx_envelope.proofs.lemmas.headers.Identities.{same_identity-true}
-use Rattle.nx_log.proofs.lemmas.texts.Moments.{same_time}
+use Rattle.nx_log.proofs.lemmas.texts.Moments.{same_number, same_time}
 use Rattle.nx_log.specs.declared.entries.head.LoggedHead.{LoggedHead}
 use Rattle.nx_log.specs.private.Heads.{BeginsWithHead, IsHead, head_and}
 use Rattle.nx_log.proofs.lemmas.reading.Pieces.{Same, same_mark, same_name, same_decimal, same_text}
@@ -74,10 +74,6 @@ entry_on one bytes more entry =
 pub record SameEntry (a b : MarkedCopy) (x y : List ℕ) : Type 0 where
   pub entry : a ≡ b
   pub rest : x ≡ y
-
--- the number of two digits
-same_number : (a b : ℕ) → 48 + a / 10 ≡ 48 + b / 10 → 48 + a % 10 ≡ 48 + b % 10 → a ≡ b
-same_number a b e f = omega arith
 
 same_identity : (a b : Identity) → a.b1.byte ≡ b.b1.byte → a.b2.byte ≡ b.b2.byte
     → a.number ≡ b.number → a ≡ b

@@ -68,7 +68,16 @@ no_first : (is_torn : Bool) (blanks : List ℕ) → TornBegins is_torn blanks []
 no_first true blanks h = inl (subst (All IsBlank) (sym h) (All-nil IsBlank))
 no_first false blanks h = inl h.0
 
--- with the decision whether it is a gap
+-- with the decision whether a byte is a blank, and bytes a gap
+pub is_blank : (byte : ℕ) → IsBlank byte ⊎ (¬ IsBlank byte)
+is_blank byte = elim (cases_eq byte 10) [
+  | inl e ↦ inl (inl e)
+  | inr n ↦ elim (cases_eq byte 32) [
+    | inl e ↦ inl (inr e)
+    | inr m ↦ inr (λ b. elim b [ inl e ↦ n e | inr e ↦ m e ])
+  ]
+]
+
 decided : (front : List ℕ) → IsGap front ⊎ (¬ IsGap front)
 decided [] = inl (inl (All-nil IsBlank))
 decided (x ∷ []) = inl (inr refl)
@@ -77,15 +86,6 @@ decided (x ∷ y ∷ xs) = elim (all_blank (x ∷ y ∷ xs)) [
   | inr other ↦ inr (λ g. elim g [ inl blank ↦ other blank | inr one ↦ omega (arith, one) ])
 ]
   where
-    is_blank : (byte : ℕ) → IsBlank byte ⊎ (¬ IsBlank byte)
-    is_blank byte = elim (cases_eq byte 10) [
-      | inl e ↦ inl (inl e)
-      | inr n ↦ elim (cases_eq byte 32) [
-        | inl e ↦ inl (inr e)
-        | inr m ↦ inr (λ b. elim b [ inl e ↦ n e | inr e ↦ m e ])
-      ]
-    ]
-
     all_blank : (xs : List ℕ) → All IsBlank xs ⊎ (¬ All IsBlank xs)
     all_blank [] = inl (All-nil IsBlank)
     all_blank (x ∷ xs) = elim (is_blank x) [

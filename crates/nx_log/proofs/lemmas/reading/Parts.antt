@@ -7,7 +7,7 @@ use Rattle.nx_copies.specs.copies.Shares.{MarkedCopy}
 use Rattle.nx_log.specs.Entries.{IsUnfinishedEntry}
 use Rattle.nx_log.specs.Logged.{IsLoggedAs}
 use Rattle.nx_log.specs.Reading.{AreRead, Head, IsHead, IsLongest, IsNext, IsNoBracket, IsPart, IsTail, LogRead, begun, entries_of, is_begun, nothing, nothing_read, reach_behind, torn_line, whole}
-use Rattle.nx_log.proofs.lemmas.beginnings.Lists.{one_extends, some_elements}
+use Rattle.nx_log.proofs.lemmas.beginnings.Lists.{no_elements, one_extends, some_elements}
 use Rattle.nx_log.proofs.lemmas.reader.Begun.{unfinished_begins_none, whole_or_more}
 use Rattle.nx_log.proofs.lemmas.reader.Tails.{same_torn}
 use Rattle.nx_log.proofs.lemmas.reading.Entries.{one_entry}
@@ -111,19 +111,15 @@ same_head false (whole one) (whole other) f g t u h k e =
       front = elim (one_extends f g t u e) [
         | inl x ↦
             let none : x.more ≡ [] =
-            nothing_more x.more (omega (arith, ap length x.is, size, length-append f x.more)) in
+            no_elements x.more (omega (arith, ap length x.is, size, length-append f x.more)) in
             sym (append-nil f) ∙ ap (λ l. f ++ l) (sym none) ∙ sym x.is
         | inr x ↦
             let none : x.more ≡ [] =
-            nothing_more x.more (omega (arith, ap length x.is, size, length-append g x.more)) in
+            no_elements x.more (omega (arith, ap length x.is, size, length-append g x.more)) in
             x.is ∙ ap (λ l. g ++ l) none ∙ append-nil g
       ];
       tail = same.rest;
     }
-  where
-    nothing_more : (xs : List ℕ) → length xs ≡ 0 → xs ≡ []
-    nothing_more [] n = refl
-    nothing_more (x ∷ xs) n = absurd (omega (arith, n))
 same_head false (whole one) begun f g t u h k e = absurd (not_both one f g t u h k.0 k.1 e)
 same_head false begun nothing f g t u h k e = absurd k
 same_head false begun (whole other) f g t u h k e =

@@ -36,7 +36,7 @@ all_read most (Some xs) (Some ys) bytes input consumed known within (inr long) =
     ∙ ap (take most) (sym consumed ∙ some_list xs input known)
 
 -- a count of failures that isn't one is none
-none_failed : (failures : ℕ) → failures ≤ 1 → (failures ≡ 1 → ⊥) → failures ≡ 0
+pub none_failed : (failures : ℕ) → failures ≤ 1 → (failures ≡ 1 → ⊥) → failures ≡ 0
 none_failed zero once never = refl
 none_failed (suc zero) once never = absurd (never refl)
 none_failed (suc (suc n)) once never = absurd (omega (arith, once))

@@ -26,6 +26,8 @@ use Rattle.nx_log.specs.declared.writing.form.Form.{Form}
 use Rattle.nx_log.specs.declared.writing.last_entries.HeldEntry.{HeldEntry}
 use Rattle.nx_log.specs.declared.writing.output.Output.{Output}
 use Rattle.nx_log.proofs.lemmas.runs.Replacing.{last-few, last_entries}
+use Rattle.nx_log.proofs.lemmas.beginnings.Lists.{left_nil}
+use Rattle.nx_fec.proofs.lemmas.devices.WritingLaws.{WroteSome-front}
 
 pub AllZip-append : {A B : Type 0} (R : A → B → Type 0) (xs zs : List A) (ys ws : List B)
     → AllZip R xs ys → AllZip R zs ws → AllZip R (xs ++ zs) (ys ++ ws)
@@ -134,17 +136,6 @@ head-said view one same errors =
       errors = errors ∙ ap errors_of text;
     }
 
--- some first bytes of a text are some of a longer one
-part-longer : (old new : Option (List ℕ)) (text more : List ℕ) (written : ℕ)
-    → WroteSome old new text written → WroteSome old new (text ++ more) written
-part-longer old new text more written part = record {
-  taken = part.taken;
-  fewer = omega (arith, part.fewer, length-append text more);
-  counted = part.counted;
-  appended = subst (Appends old new) (sym (take-append-le part.taken text more
-      (omega (arith, part.fewer)))) part.appended;
-}
-
 -- nothing is given yet
 pub nothing-given : (query : Query) (form : Form) (old : Option (List ℕ)) (output : Output)
     → HasGiven old old output.batch [] → output.passed ≡ 0 → output.held.entries.items ≡ []
@@ -242,7 +233,7 @@ module _ (query : Query) (form : Form) (old now : Option (List ℕ)) (before : O
       joined = ap (λ l. concat h.texts ++ l) (sym (append-nil text))
           ∙ sym (concat-append h.texts (text ∷ []));
     };
-    part = part-longer old new (concat h.texts ++ text)
+    part = WroteSome-front old new (concat h.texts ++ text)
         (end_of form (chosen query (entries ++ one ∷ []))) written part;
   }
 
@@ -285,13 +276,9 @@ module _ (query : Query) (form : Form) (old now : Option (List ℕ)) (before : O
       let whole = sym h.given.whole ∙ nothing-written at_last in
       record {
         last = at_last;
-        nothing = subst (Appends old now) (front h.given.done before.batch.bytes whole)
+        nothing = subst (Appends old now) (left_nil h.given.done before.batch.bytes whole)
             h.given.written.appended;
       }
-    where
-      front : (xs ys : List ℕ) → xs ++ ys ≡ [] → xs ≡ []
-      front [] ys e = refl
-      front (x ∷ xs) ys e = absurd (cc)
 
   -- what waits is sent
   pub given-sent : {R : Type 0} (r : Result R WriteFault) (new : Option (List ℕ)) (after : Output)
@@ -342,7 +329,7 @@ module _ (query : Query) (form : Form) (old now : Option (List ℕ)) (before : O
           each = subst (λ l. AllZip (IsInForm form) l h.texts) (sym (all-passed at_once)) h.each;
           joined = refl;
         };
-        part = part-longer old new (concat h.texts) (end_of form (chosen query entries))
+        part = WroteSome-front old new (concat h.texts) (end_of form (chosen query entries))
             fault.written k;
       }
 
@@ -367,7 +354,7 @@ module _ (query : Query) (form : Form) (old now : Option (List ℕ)) (before : O
   part-finished new written part = record {
     output = last_texts;
     is_output = all-output;
-    part = part-longer old new last_texts (end_of form (chosen query entries)) written part;
+    part = WroteSome-front old new last_texts (end_of form (chosen query entries)) written part;
   }
 
   pub finished : {R : Type 0} (r : Result R WriteFault) (new : Option (List ℕ)) (batch : Waiting)

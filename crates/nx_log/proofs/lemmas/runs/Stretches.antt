@@ -6,12 +6,13 @@ use Rattle.std.specs.List.{All}
 use Rattle.std.proofs.Math.Seq.{drop-append-add}
 use Rattle.std.proofs.lemmas.Bool.{cases_lt}
 use Rattle.std.proofs.lemmas.Bool.Decides.{Decides-eqb}
-use Rattle.std.proofs.lemmas.List.{drop-append-le, get_or-take, length-take-le, take-append-le, take_all}
+use Rattle.std.proofs.lemmas.List.{drop-append-le, get_or-take, length-take-le, take-append-drop, take-append-le, take_all}
 use Rattle.std.proofs.lemmas.List.Elements.{All-append, All-cons, All-drop, All-from_get_or, All-nil}
 use Rattle.std.proofs.lemmas.List.Sums.{count_by-le-length, sum_by-append}
 use Rattle.memchr.specs.Find.{IsFirstByte, is_byte}
 use Rattle.nx_code.specs.Reading.{newline}
 use Rattle.nx_copies.specs.copies.Shares.{MarkedCopy}
+use Rattle.nx_log.specs.LogRun.{most_read}
 use Rattle.nx_log.specs.Notices.{damaged_at, torn_at}
 use Rattle.nx_log.specs.Reading.{HoldEntries, IsBlank, IsNext, IsNoBracket, IsOfLog, LogRead, StopAtLine, begun, line_behind}
 use Rattle.nx_log.specs.Salvage.{AreCut, BeginsAnew, BeginsBehind, IsPassedOver, Stretch, bytes_in, lines_in, told_in, told_of, told_torn}
@@ -20,6 +21,19 @@ use Rattle.nx_log.proofs.lemmas.reader.Begun.{bracket_begins}
 use Rattle.nx_log.proofs.lemmas.reader.Steps.{take_behind}
 use Rattle.nx_log.proofs.lemmas.reading.Fronts.{not_nil}
 use Rattle.nx_log.proofs.lemmas.reading.Reads.{hold_is_log, less_is_log}
+
+-- some of a part is within what is read
+pub part_within : (bytes part : List ℕ) (taken : ℕ) → length (bytes ++ part) ≤ most_read
+    → length (bytes ++ take taken part) ≤ most_read
+part_within bytes part taken h =
+    omega (
+      arith,
+      h,
+      length-append bytes part,
+      length-append bytes (take taken part),
+      ap length (take-append-drop taken part),
+      length-append (take taken part) (drop taken part),
+    )
 
 -- ---- a bracket goes on with a log
 

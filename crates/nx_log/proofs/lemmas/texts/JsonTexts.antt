@@ -74,6 +74,10 @@ text-plain byte h other =
     third (is_text_byte byte) (byte == 10) (is_plain byte) (text-test byte (text_low byte h)) h
     other
 
+not-true : (b : Bool) → ¬ (b ≡ true) → b ≡ false
+not-true true h = absurd (h refl)
+not-true false h = refl
+
 -- the next line of a text, up to its newline
 pub escape-line : (text : List ℕ) (at end : ℕ) → All (λ byte. IsTrue (is_text_byte byte)) text
     → IsFirstByte (is_byte 10) (drop at text) (Some end)
@@ -100,10 +104,6 @@ escape-line text at end each found =
     (plain-text (take end rest) plain)
     ∙ ap (λ b. escape (take at text) ++ (take end rest ++ escape (b ∷ []))) here
     ∙ sym (append_assoc (escape (take at text)) (take end rest) (92 ∷ 110 ∷ []))
-  where
-    not-true : (b : Bool) → ¬ (b ≡ true) → b ≡ false
-    not-true true h = absurd (h refl)
-    not-true false h = refl
 
 -- the last line of a text, where none has a newline
 pub escape-last : (text : List ℕ) (at : ℕ) → All (λ byte. IsTrue (is_text_byte byte)) text
@@ -118,10 +118,6 @@ escape-last text at each none =
     ap escape (sym (take-append-drop at text))
     ∙ flat_map-append escape_byte (take at text) rest
     ∙ ap (λ l. escape (take at text) ++ l) (plain-text rest plain)
-  where
-    not-true : (b : Bool) → ¬ (b ≡ true) → b ≡ false
-    not-true true h = absurd (h refl)
-    not-true false h = refl
 
 -- a text is given up to the end of its next line: what is still to come
 pub escape-front : (text : List ℕ) (at end : ℕ) → All (λ byte. IsTrue (is_text_byte byte)) text

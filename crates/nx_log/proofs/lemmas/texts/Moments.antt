@@ -35,7 +35,7 @@ pub time_on : (m : ℕ) (c u : List ℕ) → (s : IsShownAs m c)
     → c ++ u ≡ time_and s.year s.month s.day m u
 time_on m c u s = ap (λ l. l ++ u) s.is_text
 
-same_number : (a b : ℕ) → 48 + a / 10 ≡ 48 + b / 10 → 48 + a % 10 ≡ 48 + b % 10 → a ≡ b
+pub same_number : (a b : ℕ) → 48 + a / 10 ≡ 48 + b / 10 → 48 + a % 10 ≡ 48 + b % 10 → a ≡ b
 same_number a b e f = omega arith
 
 pub same_time : (m n : ℕ) (c d u v : List ℕ) → IsShownAs m c → IsShownAs n d → c ++ u ≡ d ++ v

@@ -1,7 +1,9 @@
-use Rattle.std.proofs.Common.{◌++◌, ap, refl, sym, ◌∙◌}
+use Rattle.std.proofs.Common.{[], ◌∷◌, ◌++◌, ap, refl, sym, ◌∙◌}
 use Rattle.std.proofs.lemmas.Result.{err_from_is_err_and}
-use Rattle.nx_log.proofs.lemmas.beginnings.Joins.{lacks_same}
-use Rattle.nx_log.proofs.lemmas.beginnings.Stages.{behind_head, behind_text, within_text}
+use Rattle.nx_code.specs.Reading.{newline}
+use Rattle.nx_copies.specs.copies.Log.{missing_newline}
+use Rattle.nx_log.proofs.lemmas.beginnings.Joins.{lacks_same, lacks_within}
+use Rattle.nx_log.proofs.lemmas.beginnings.Stages.{behind_head, behind_text}
 use Rattle.nx_log.proofs.lemmas.reading.Views.{is_view}
 use Rattle.nx_log.specs.private.Stages.{IsBehindText}
 use Rattle.nx_log.proofs.entries.entry.read_entry.Goals as goal
@@ -17,7 +19,8 @@ returns-in_err-text-clause-lacks c =
     c.from_residual-in_err-text.ensures.1 in
     let head = c.in_ok-head.ensures.found in
     rw p.1 (rw p.2 (behind_head c.args.bytes.now _ c.in_ok-head.head _ head.0 head.1
-    (within_text _ _ _ _ c.in_err-text.ensures.lacks)))
+    (lacks_within _ _ _ _ (λ text t is. (missing_newline text ++ newline ∷ [], refl))
+    c.in_err-text.ensures.lacks)))
 
 pub returns-in_err-rest-clause-lacks : goal.returns-in_err-rest-clause-lacks
 returns-in_err-rest-clause-lacks c =

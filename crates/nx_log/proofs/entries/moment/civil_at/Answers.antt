@@ -5,8 +5,8 @@ use Rattle.std.proofs.lemmas.Result.{err_from_is_err_and}
 use Rattle.jiff_core.specs.Calendar.{IsCivilDate, days_from_civil, days_in_month}
 use Rattle.jiff_core.proofs.SignedLemmas.{signed_arith}
 use Rattle.nx_envelope.specs.Identity.{two_digits}
-use Rattle.nx_log.proofs.lemmas.beginnings.Times.{behind_century, behind_day, behind_hour, behind_minute, behind_month, behind_year, lacks_time, shows, time_text, year_low}
-use Rattle.nx_log.proofs.lemmas.beginnings.Times.{within_century, within_day, within_hour, within_minute, within_month, within_year}
+use Rattle.nx_log.proofs.lemmas.beginnings.Joins.{lacks_within}
+use Rattle.nx_log.proofs.lemmas.beginnings.Times.{behind_number, lacks_time, shows, some_day, some_hour, some_minute, some_month, some_second, some_year, time_text, year_low}
 use Rattle.nx_log.proofs.entries.moment.civil_at.Goals as goal
 
 -- the library's days of a month are those of the year whose digits were read
@@ -21,15 +21,17 @@ pub returns-in_err-century-clause-lacks : goal.returns-in_err-century-clause-lac
 returns-in_err-century-clause-lacks c =
     let p = err_from_is_err_and c.from_residual.result
     c.from_residual.ensures.1 in
-    rw p.1 (rw p.2 (lacks_time _ _ (within_century _ _ c.in_err-century.ensures.lacks)))
+    rw p.1 (rw p.2 (lacks_time _ _ (lacks_within _ _ _ _ (λ n t is. some_year n)
+    c.in_err-century.ensures.lacks)))
 
 pub returns-in_err-year-clause-lacks : goal.returns-in_err-year-clause-lacks
 returns-in_err-year-clause-lacks c =
     let p = err_from_is_err_and c.from_residual-in_err-year.result
     c.from_residual-in_err-year.ensures.1 in
     let century = c.in_ok-century in
-    rw p.1 (rw p.2 (lacks_time _ _ (behind_century _ _ century.century _ century.ensures.in_range
-    century.ensures.found (within_year _ _ century.century
+    rw p.1 (rw p.2 (lacks_time _ _ (behind_number _ _ _ _ _ _ century.century _
+    century.ensures.in_range
+    century.ensures.found (lacks_within _ _ _ _ (λ n t is. some_month (century.century * 100 + n))
     (rw c.first_year.ensures at c.in_err-year.ensures.lacks)))))
 
 pub returns-in_err-month-clause-lacks : goal.returns-in_err-month-clause-lacks
@@ -39,9 +41,11 @@ returns-in_err-month-clause-lacks c =
     let century = c.in_ok-century in
     let year = c.in_ok-year in
     let from = rw c.first_year.ensures at year.ensures.in_range in
-    rw p.1 (rw p.2 (lacks_time _ _ (behind_century _ _ century.century _ century.ensures.in_range
-    century.ensures.found (behind_year _ _ century.century year.year _ from year.ensures.found
-    (within_month _ _ (century.century * 100 + year.year) c.in_err-month.ensures.lacks)))))
+    rw p.1 (rw p.2 (lacks_time _ _ (behind_number _ _ _ _ _ _ century.century _
+    century.ensures.in_range
+    century.ensures.found (behind_number _ _ _ _ _ _ year.year _ from year.ensures.found
+    (lacks_within _ _ _ _ (λ n t is. some_day (century.century * 100 + year.year) n)
+    c.in_err-month.ensures.lacks)))))
 
 pub returns-in_err-day-clause-lacks : goal.returns-in_err-day-clause-lacks
 returns-in_err-day-clause-lacks c =
@@ -54,11 +58,11 @@ returns-in_err-day-clause-lacks c =
     let most = most_is month.month c.from.result c.from-2.result century.century year.year
     c.days_in_month.result c.from.ensures c.from-2.ensures century.ensures.in_range.1
     year.ensures.in_range.1 c.days_in_month.ensures.value in
-    rw p.1 (rw p.2 (lacks_time _ _ (behind_century _ _ century.century _ century.ensures.in_range
-    century.ensures.found (behind_year _ _ century.century year.year _ from year.ensures.found
-    (behind_month _ _ (century.century * 100 + year.year) month.month _ month.ensures.in_range
-    month.ensures.found
-    (within_day _ _ (century.century * 100 + year.year) month.month
+    rw p.1 (rw p.2 (lacks_time _ _ (behind_number _ _ _ _ _ _ century.century _
+    century.ensures.in_range
+    century.ensures.found (behind_number _ _ _ _ _ _ year.year _ from year.ensures.found
+    (behind_number _ _ _ _ _ _ month.month _ month.ensures.in_range month.ensures.found
+    (lacks_within _ _ _ _ (λ n t is. some_hour)
     (rw most at c.in_err-day.ensures.lacks)))))))
 
 pub returns-in_err-hour-clause-lacks : goal.returns-in_err-hour-clause-lacks
@@ -74,12 +78,12 @@ returns-in_err-hour-clause-lacks c =
     year.ensures.in_range.1 c.days_in_month.ensures.value in
     let day = c.in_ok-day in
     let to = rw most at day.ensures.in_range in
-    rw p.1 (rw p.2 (lacks_time _ _ (behind_century _ _ century.century _ century.ensures.in_range
-    century.ensures.found (behind_year _ _ century.century year.year _ from year.ensures.found
-    (behind_month _ _ (century.century * 100 + year.year) month.month _ month.ensures.in_range
-    month.ensures.found
-    (behind_day _ _ (century.century * 100 + year.year) month.month day.day _ to day.ensures.found
-    (within_hour _ _ c.in_err-hour.ensures.lacks)))))))
+    rw p.1 (rw p.2 (lacks_time _ _ (behind_number _ _ _ _ _ _ century.century _
+    century.ensures.in_range
+    century.ensures.found (behind_number _ _ _ _ _ _ year.year _ from year.ensures.found
+    (behind_number _ _ _ _ _ _ month.month _ month.ensures.in_range month.ensures.found
+    (behind_number _ _ _ _ _ _ day.day _ to day.ensures.found
+    (lacks_within _ _ _ _ (λ n t is. some_minute) c.in_err-hour.ensures.lacks)))))))
 
 pub returns-in_err-minute-clause-lacks : goal.returns-in_err-minute-clause-lacks
 returns-in_err-minute-clause-lacks c =
@@ -95,13 +99,13 @@ returns-in_err-minute-clause-lacks c =
     let day = c.in_ok-day in
     let to = rw most at day.ensures.in_range in
     let hour = c.in_ok-hour in
-    rw p.1 (rw p.2 (lacks_time _ _ (behind_century _ _ century.century _ century.ensures.in_range
-    century.ensures.found (behind_year _ _ century.century year.year _ from year.ensures.found
-    (behind_month _ _ (century.century * 100 + year.year) month.month _ month.ensures.in_range
-    month.ensures.found
-    (behind_day _ _ (century.century * 100 + year.year) month.month day.day _ to day.ensures.found
-    (behind_hour _ _ hour.hour _ hour.ensures.in_range hour.ensures.found
-    (within_minute _ _ c.in_err-minute.ensures.lacks))))))))
+    rw p.1 (rw p.2 (lacks_time _ _ (behind_number _ _ _ _ _ _ century.century _
+    century.ensures.in_range
+    century.ensures.found (behind_number _ _ _ _ _ _ year.year _ from year.ensures.found
+    (behind_number _ _ _ _ _ _ month.month _ month.ensures.in_range month.ensures.found
+    (behind_number _ _ _ _ _ _ day.day _ to day.ensures.found
+    (behind_number _ _ _ _ _ _ hour.hour _ hour.ensures.in_range hour.ensures.found
+    (lacks_within _ _ _ _ (λ n t is. some_second) c.in_err-minute.ensures.lacks))))))))
 
 pub returns-in_err-second-clause-lacks : goal.returns-in_err-second-clause-lacks
 returns-in_err-second-clause-lacks c =
@@ -118,13 +122,13 @@ returns-in_err-second-clause-lacks c =
     let to = rw most at day.ensures.in_range in
     let hour = c.in_ok-hour in
     let minute = c.in_ok-minute in
-    rw p.1 (rw p.2 (lacks_time _ _ (behind_century _ _ century.century _ century.ensures.in_range
-    century.ensures.found (behind_year _ _ century.century year.year _ from year.ensures.found
-    (behind_month _ _ (century.century * 100 + year.year) month.month _ month.ensures.in_range
-    month.ensures.found
-    (behind_day _ _ (century.century * 100 + year.year) month.month day.day _ to day.ensures.found
-    (behind_hour _ _ hour.hour _ hour.ensures.in_range hour.ensures.found
-    (behind_minute _ _ minute.minute _ minute.ensures.in_range minute.ensures.found
+    rw p.1 (rw p.2 (lacks_time _ _ (behind_number _ _ _ _ _ _ century.century _
+    century.ensures.in_range
+    century.ensures.found (behind_number _ _ _ _ _ _ year.year _ from year.ensures.found
+    (behind_number _ _ _ _ _ _ month.month _ month.ensures.in_range month.ensures.found
+    (behind_number _ _ _ _ _ _ day.day _ to day.ensures.found
+    (behind_number _ _ _ _ _ _ hour.hour _ hour.ensures.in_range hour.ensures.found
+    (behind_number _ _ _ _ _ _ minute.minute _ minute.ensures.in_range minute.ensures.found
     c.in_err-second.ensures.lacks))))))))
 
 pub returns-clause-found : goal.returns-clause-found

@@ -32,7 +32,8 @@ overflow_cast-result c =
     let e = day_is c.args.year c.args.month c.args.day c.in-Ok.date.month c.in-Ok.date.day
     c.in-Ok.date.year c.to_unix_epoch_day.result c.requires.year c.requires.date
     (value.0 ∙ to_z_pos w16 _ (omega arith)) (omega (arith, signed_arith, month))
-    (omega (arith, signed_arith, day)) (c.to_unix_epoch_day.ensures.value ∙ rw c.to_plain.ensures refl) in
+    (omega (arith, signed_arith, day))
+    (c.to_unix_epoch_day.ensures.value ∙ rw c.to_plain.ensures refl) in
     let below = e.3 in rw e.1 (tt, omega arith)
 
 pub returns-clause-value : goal.returns-clause-value
@@ -44,7 +45,8 @@ returns-clause-value c =
     let e = day_is c.args.year c.args.month c.args.day c.in-Ok.date.month c.in-Ok.date.day
     c.in-Ok.date.year c.to_unix_epoch_day.result c.requires.year c.requires.date
     (value.0 ∙ to_z_pos w16 _ (omega arith)) (omega (arith, signed_arith, month))
-    (omega (arith, signed_arith, day)) (c.to_unix_epoch_day.ensures.value ∙ rw c.to_plain.ensures refl) in
+    (omega (arith, signed_arith, day))
+    (c.to_unix_epoch_day.ensures.value ∙ rw c.to_plain.ensures refl) in
     rw e.1 e.2
 
 pub returns-clause-below : goal.returns-clause-below
@@ -56,5 +58,6 @@ returns-clause-below c =
     let e = day_is c.args.year c.args.month c.args.day c.in-Ok.date.month c.in-Ok.date.day
     c.in-Ok.date.year c.to_unix_epoch_day.result c.requires.year c.requires.date
     (value.0 ∙ to_z_pos w16 _ (omega arith)) (omega (arith, signed_arith, month))
-    (omega (arith, signed_arith, day)) (c.to_unix_epoch_day.ensures.value ∙ rw c.to_plain.ensures refl) in
+    (omega (arith, signed_arith, day))
+    (c.to_unix_epoch_day.ensures.value ∙ rw c.to_plain.ensures refl) in
     rw e.1 e.3

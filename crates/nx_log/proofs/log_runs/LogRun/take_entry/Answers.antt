@@ -10,20 +10,8 @@ use Rattle.nx_log.specs.Salvage.{BeginsBehind, bytes_in, entries_in, told_of}
 use Rattle.nx_log.specs.private.LogRunning.{FailsGiving, HasGivenOutput, IsRunning}
 use Rattle.nx_log.proofs.lemmas.runs.LogRuns.{exact-line, fails-entry, part-at, passes-over, stops, taken-some, torn-bound, torn-some}
 use Rattle.nx_log.proofs.lemmas.runs.Placing.{one_more}
-use Rattle.nx_log.proofs.lemmas.runs.Stretches.{begins_behind, cut_on, told_more}
+use Rattle.nx_log.proofs.lemmas.runs.Stretches.{begins_behind, cut_on, part_within, told_more}
 use Rattle.nx_log.proofs.log_runs.LogRun.take_entry.Goals as goal
-
-part_within : (bytes part : List ℕ) (taken : ℕ) → length (bytes ++ part) ≤ most_read
-    → length (bytes ++ take taken part) ≤ most_read
-part_within bytes part taken h =
-    omega (
-      arith,
-      h,
-      length-append bytes part,
-      length-append bytes (take taken part),
-      ap length (take-append-drop taken part),
-      length-append (take taken part) (drop taken part),
-    )
 
 pub give-requires-clause-whole : goal.give-requires-clause-whole
 give-requires-clause-whole g c =

@@ -4,20 +4,8 @@ use Rattle.nx_log.specs.LogRun.{most_read}
 use Rattle.nx_log.specs.Notices.{notices_of}
 use Rattle.nx_log.specs.private.LogRunning.{IsRunning}
 use Rattle.nx_log.proofs.lemmas.runs.LogRuns.{front-answer, goes-by}
-use Rattle.nx_log.proofs.lemmas.runs.Stretches.{take_begins}
+use Rattle.nx_log.proofs.lemmas.runs.Stretches.{part_within, take_begins}
 use Rattle.nx_log.proofs.log_runs.LogRun.take_front.Goals as goal
-
-part_within : (bytes part : List ℕ) (taken : ℕ) → length (bytes ++ part) ≤ most_read
-    → length (bytes ++ take taken part) ≤ most_read
-part_within bytes part taken h =
-    omega (
-      arith,
-      h,
-      length-append bytes part,
-      length-append bytes (take taken part),
-      ap length (take-append-drop taken part),
-      length-append (take taken part) (drop taken part),
-    )
 
 pub take_entry-requires-clause-begins : goal.take_entry-requires-clause-begins
 take_entry-requires-clause-begins g c = λ is_passing.

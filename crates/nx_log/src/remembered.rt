@@ -37,7 +37,7 @@ pub fn remembered_of(view: &EntryView) -> Option<MemoryEntry>
         in result ≡ (if the_is_kept copy then Some (entry_of copy) else None) }
 {
     let head = &view.head;
-    if is_kept(head) {
+    if is_remembered(head) {
         Some(MemoryEntry {
             identity: head.identity,
             moment: head.moment,
@@ -47,8 +47,8 @@ pub fn remembered_of(view: &EntryView) -> Option<MemoryEntry>
     }
 }
 
-/// Whether a memory keeps the entry that this heads.
-fn is_kept(head: &LoggedHead) -> bool
+/// Whether the entry that this heads is remembered.
+fn is_remembered(head: &LoggedHead) -> bool
     ensures { (text : List ℕ) → head.now.errors ≡ errors_of text
         → head.now.characters ≡ length text
         → result ≡ the_is_kept (copy_said head.now text).copy }

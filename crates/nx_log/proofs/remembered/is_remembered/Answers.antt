@@ -1,7 +1,7 @@
 use Rattle.std.proofs.Common.{◌∙◌, ap, not, sym}
 use Rattle.std.specs.Prelude.{◌==◌}
 use Rattle.nx_log.proofs.lemmas.texts.QueryTexts.{last-known, none-before}
-use Rattle.nx_log.proofs.kept.is_kept.Goals as goal
+use Rattle.nx_log.proofs.remembered.is_remembered.Goals as goal
 use Rattle.nx_log.specs.Logged.{is_kept}
 use Rattle.nx_log.specs.View.{copy_said}
 use Rattle.nx_copies.specs.copies.Printing.{is_good}
