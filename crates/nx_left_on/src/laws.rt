@@ -1,8 +1,9 @@
 //! Laws of a chain of watches of one kept log. Each function does nothing; its contract is the law.
 
 ghost use Rattle.std.specs.Prelude.{◌≡◌, ◌⊎◌, ◌≤◌, ℕ, ◌+◌, suc, true, false, Contains, List, [], ◌∷◌, ◌++◌, length, take, Err, Option, Result};
+ghost use Rattle.std.specs.Io.KnownBytes.{Consumes};
 ghost use Rattle.nx_envelope.specs.Message.{MessageView};
-ghost use Rattle.nx_fec.specs.Transfers.{CountedDevice};
+ghost use Rattle.nx_fec.specs.Transfers.{CountedDevice, IsReadOut};
 ghost use Rattle.nx_fec.specs.air_files.AirFile.{Line};
 ghost use Rattle.nx_fec.specs.declared.air_files.channel.Channel.{Channel};
 ghost use Rattle.nx_fec.specs.declared.air_files.channel.Channel.TheVariants.{Zero};
@@ -17,15 +18,16 @@ ghost use Rattle.nx_copies.specs.copies.Printing.{printed_copies};
 ghost use Rattle.nx_copies.specs.copies.Shares.{MarkedCopy, copies_on};
 ghost use Rattle.nx_station.specs.reception.PathExample.{example_message};
 ghost use Rattle.nx_station.specs.reception.Sendings.{IsCut, IsSentAt, Part};
+ghost use Rattle.nx_watch.specs.Acting.{most_bytes};
 ghost use Rattle.nx_watch.specs.Stamp.{Stamp};
 ghost use Rattle.nx_watch.specs.declared.watch_fault.WatchFault.{WatchFault};
 ghost use Rattle.nx_watch.specs.declared.watch_fault.WatchFault.TheVariants.{Disk};
 ghost use Rattle.nx_watch.specs.AnyLines.{AreLines};
 ghost use Rattle.nx_watch.specs.declared.watch_report.WatchReport.{WatchReport};
-ghost use Rattle.nx_watch.specs.Watch.{AnswersWatch, PrintsUntil, StandsForEntries, Stop, starts_at};
+ghost use Rattle.nx_watch.specs.Watch.{AnswersWatch, HasRead, PrintsUntil, StandsForEntries, Stop, moments_at, starts_at};
 ghost use Rattle.nx_left_on.specs.AtHand.{AtHand, telling};
 ghost use Rattle.nx_left_on.specs.ByEachRead.{HadTold, HadWrittenOn, HasWrittenOn};
-ghost use Rattle.nx_left_on.specs.Call.{IsOfCall, TellsAllKept, all_kept, left_at_any_moment, left_behind};
+ghost use Rattle.nx_left_on.specs.Call.{CallEnd, IsOfCall, TellsAllKept, all_kept, ending_by, left_at_any_moment, left_behind};
 ghost use Rattle.nx_left_on.specs.Chain.{ClocksAreNear, GoesOn, HadRead, IsChain, IsLeftBy, Puts, Watch, acting_at, all_copies, all_put, answered, kept_all_at, kept_some_at, lines_of, stopped, with_copies};
 ghost use Rattle.nx_left_on.specs.Example.{example_watches, first_acting, first_moment, first_watch, kept_bytes, one_entry, second_acting, second_watch};
 ghost use Rattle.nx_left_on.specs.LeftOn.{CutWatch, HasEndedAt, IsHeardInTimeOver, IsSentIn, IsUnknownOver, elements_in};
@@ -181,6 +183,23 @@ pub fn a_watch_is_sure_of_what_was_whole_by_a_read<D: DiskFile, R: Read, W: Writ
         → IsOfCall (telling D.DiskFile R.remaining W.contents N.contents a).streams now log
         left_at_any_moment file watch
         → watch.sure ≡ [] }
+{}
+
+/// What a watch of a call has of it: the moment at which it started, how it ended, and the file
+/// that it left. Its lines are those that act, of those of the bytes that the call read until it
+/// stopped.
+pub fn a_watch_of_a_call_is_as_the_call_was<D: DiskFile, R: Read, W: Write, N: Write>()
+    ensures { (a : AtHand D R W N) (now : ℕ) (log : List MarkedCopy) (end : CallEnd)
+        (file : List ℕ) (watch : Watch)
+        → (called : IsOfCall (telling D.DiskFile R.remaining W.contents N.contents a).streams now
+        log end file watch)
+        → (watch.moment ≡ now) × (watch.ending ≡ ending_by end called.stop) × (watch.file ≡ file)
+        × GoesOn log watch
+        × Consumes (R.remaining a.reader.inner) (R.remaining a.reader_after.inner) called.bytes
+        × HasRead (IsReadOut (telling D.DiskFile R.remaining W.contents N.contents a).streams
+        ⊎ (length called.bytes ≡ most_bytes)) (moments_at now (starts_at now log)) called.stop
+        called.bytes called.lines
+        × (lines_of watch ≡ acting_at now log called.lines) }
 {}
 
 /// A sending that a watch didn't hear counts as none of it: one whose header has its second digit

@@ -37,6 +37,12 @@ pub fn a_log_reader_reads_what_a_watch_keeps()
         → StandsForEntries entries (front ++ more) → StopAtLine front others torn line → ⊥ }
 {}
 
+/// So of a file with no tail it gives these entries alone.
+pub fn a_log_reader_gives_no_more_without_a_tail()
+    ensures { (entries all : List MarkedCopy)
+        → AreThenThoseOfTail entries [] all → all ≡ entries }
+{}
+
 /// Kept logs at rest, one behind the other, are a log. A reader gives the entries of all, in order,
 /// and no others; no first part of them stops being a log. Where each is as `put` leaves it, no
 /// torn entry is told.
