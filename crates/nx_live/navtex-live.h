@@ -37,20 +37,22 @@ enum nx_live_status {
     NX_LIVE_NO_STATION = 28,   /* the byte names no station */
     NX_LIVE_CLOSED = 32,       /* the receiver is closed, or its end has begun */
     NX_LIVE_ALREADY_OPEN = 33, /* the receiver is open */
-    NX_LIVE_NO_CHANNEL = 34,   /* the number is that of no channel */
+    NX_LIVE_NO_CHANNEL = 34,   /* the receiver has no channel of this number */
     NX_LIVE_NO_ELEMENT = 35,   /* a byte is none of an element */
     NX_LIVE_NO_SUBJECT = 36,   /* the byte names no subject */
     NX_LIVE_NO_ENTRY = 37      /* the bytes begin with no entry of a log */
 };
 
-/* How many bytes of room a receiver needs, and how they are aligned. Over the C that wasm2c makes, the
- * memory of the whole module lies in the room, its stack too; all is then compiled with
- * -DNX_LIVE_BY_WASM2C. */
-#define NX_LIVE_KEPT 22400
+/* How many bytes of room a receiver needs of so many channels, one to three, and how they are aligned.
+ * Over the C that wasm2c makes, the memory of the whole module lies in the room, its stack too; all is
+ * then compiled with -DNX_LIVE_BY_WASM2C. What is kept has NX_LIVE_CHANNEL bytes of each channel, and
+ * NX_LIVE_KEPT of three. */
+#define NX_LIVE_CHANNEL 7464
+#define NX_LIVE_KEPT 22392
 #ifdef NX_LIVE_BY_WASM2C
-#define NX_LIVE_ROOM 63664
+#define NX_LIVE_ROOM(channels) (41272 + (channels) * NX_LIVE_CHANNEL)
 #else
-#define NX_LIVE_ROOM NX_LIVE_KEPT
+#define NX_LIVE_ROOM(channels) ((channels) * NX_LIVE_CHANNEL)
 #endif
 #define NX_LIVE_ROOM_ALIGNMENT 8
 
@@ -58,13 +60,27 @@ enum nx_live_status {
 #define NX_LIVE_MAX_ENTRY 4163
 #define NX_LIVE_MAX_STATE 11001
 
-/* A receiver: where the room lies that was lent to it. */
+/* A receiver: where the room lies that was lent to it, and for how many channels. */
 struct nx_live {
     void *room;
+    size_t channels;
 };
 
-/* Makes a closed receiver of NX_LIVE_ROOM bytes of room, whatever lies there. */
-void nx_live_lend(struct nx_live *receiver, void *room);
+/* Make a closed receiver of one, two or three channels, of NX_LIVE_ROOM of so many bytes of room,
+ * whatever lies there. It has channel 0, channels 0 and 1, or all three. */
+void nx_live_lend_1(struct nx_live *receiver, void *room);
+void nx_live_lend_2(struct nx_live *receiver, void *room);
+void nx_live_lend_3(struct nx_live *receiver, void *room);
+
+/* The same by a number of channels, 1 to 3. */
+static inline void nx_live_lend(struct nx_live *receiver, void *room, int channels) {
+    if (channels == 1)
+        nx_live_lend_1(receiver, room);
+    else if (channels == 2)
+        nx_live_lend_2(receiver, room);
+    else
+        nx_live_lend_3(receiver, room);
+}
 
 /* Gives the room of a closed receiver back. No call may take the receiver any more. */
 void nx_live_return(struct nx_live *receiver);
@@ -73,14 +89,15 @@ void nx_live_return(struct nx_live *receiver);
  * NX_LIVE_ALREADY_OPEN or NX_LIVE_MOMENT_RANGE: it stays as it was. */
 uint32_t nx_live_open(struct nx_live *receiver, uint64_t moment);
 
-/* Opens a closed receiver from the text of a state, as nx_live_save writes it.
- * NX_LIVE_ALREADY_OPEN, NX_LIVE_STATE_LINE or NX_LIVE_STATE_CUT: it stays as it was. */
+/* Opens a closed receiver from the text of a state, as nx_live_save writes it. NX_LIVE_ALREADY_OPEN,
+ * NX_LIVE_STATE_LINE, NX_LIVE_STATE_CUT, or NX_LIVE_NO_CHANNEL, where the state has an entry or refuses
+ * something of a channel that the receiver doesn't have: it stays as it was. */
 uint32_t nx_live_open_from(struct nx_live *receiver, const uint8_t *state, size_t length);
 
 /* Sets the moment from here on, of all channels. */
 uint32_t nx_live_set_moment(struct nx_live *receiver, uint64_t moment);
 
-/* Hears elements of a channel, 0 to 2, each a byte, 1 for B and 0 for Y: up to and with the one that
+/* Hears elements of a channel, by its number, each a byte, 1 for B and 0 for Y: up to and with the one that
  * ends the first message that is printed. `heard` is how many it heard, and `written` the length of
  * the entry; 0 where nothing is printed, and then it heard all. Ask with NX_LIVE_MAX_ENTRY of room. */
 uint32_t nx_live_hear(struct nx_live *receiver, uint8_t channel, const uint8_t *elements, size_t count,
@@ -92,7 +109,8 @@ uint32_t nx_live_accept_station(struct nx_live *receiver, uint8_t channel, uint8
 uint32_t nx_live_refuse_subject(struct nx_live *receiver, uint8_t channel, uint8_t subject);
 uint32_t nx_live_accept_subject(struct nx_live *receiver, uint8_t channel, uint8_t subject);
 
-/* Writes the text of a state, with which nx_live_open_from goes on: at most NX_LIVE_MAX_STATE bytes.
+/* Writes the text of a state, with which nx_live_open_from goes on: at most NX_LIVE_MAX_STATE bytes, and
+ * nothing of a channel that the receiver doesn't have.
  * NX_LIVE_NO_ROOM: there is no room for all of it; NX_LIVE_CLOSED. */
 uint32_t nx_live_save(struct nx_live *receiver, uint8_t *state, size_t capacity, size_t *written);
 

@@ -14,7 +14,12 @@ int wait(void);
 static volatile uint8_t ring[RING];
 static volatile unsigned came, taken;
 
-static _Alignas(NX_LIVE_ROOM_ALIGNMENT) unsigned char room[NX_LIVE_ROOM];
+/* So many channels are heard at once. This machine has one demodulator, of channel 0. */
+#ifndef CHANNELS
+#define CHANNELS 3
+#endif
+
+static _Alignas(NX_LIVE_ROOM_ALIGNMENT) unsigned char room[NX_LIVE_ROOM(CHANNELS)];
 static uint8_t entry[NX_LIVE_MAX_ENTRY];
 static struct nx_live receiver;
 
@@ -43,7 +48,7 @@ static int hear(uint8_t element) {
 /* The main loop: hears until the machine goes on no more, and then hands out what stands open. */
 int bare(void) {
     size_t written;
-    nx_live_lend(&receiver, room);
+    nx_live_lend(&receiver, room, CHANNELS);
     if (nx_live_open(&receiver, now()) != NX_LIVE_DONE)
         return 1;
     while (wait()) {

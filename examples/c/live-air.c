@@ -6,6 +6,8 @@
  *                                    new one goes to the file NEW
  *   live-air entries                 reads a log entry by entry, and writes it again from what each
  *                                    is told to say
+ *   live-air rooms                   tries receivers of one, two and three channels, and what is
+ *                                    answered of a channel that isn't there
  *   live-air speed PIECE TIMES       hears all elements so often, and says how many nanoseconds of
  *                                    the processor one took
  *
@@ -21,16 +23,19 @@
 #include <io.h>
 #endif
 
-static _Alignas(NX_LIVE_ROOM_ALIGNMENT) unsigned char room[NX_LIVE_ROOM];
+static _Alignas(NX_LIVE_ROOM_ALIGNMENT) unsigned char room[NX_LIVE_ROOM(3)];
 static uint8_t entry[NX_LIVE_MAX_ENTRY];
 static struct nx_live receiver;
 
-static void done(const char *what, uint32_t status) {
-    if (status != NX_LIVE_DONE) {
+/* A call answered this status. */
+static void answers(const char *what, uint32_t status, uint32_t wanted) {
+    if (status != wanted) {
         fprintf(stderr, "live-air: %s: status %" PRIu32 "\n", what, status);
         exit(2);
     }
 }
+
+static void done(const char *what, uint32_t status) { answers(what, status, NX_LIVE_DONE); }
 
 /* The channel of a line, from the byte behind its letters; moves it to what stands behind the
  * space. */
@@ -132,6 +137,39 @@ static int entries(void) {
     return 0;
 }
 
+/* A receiver of so many channels: each that it has hears, and each call on another one, or with a
+ * state of it, answers that there is none. */
+static void try_room(int channels) {
+    static const char more[] = "STATE 2\nC0\nC1\nC2\nRS A\nEND\n";
+    static uint8_t state[NX_LIVE_MAX_STATE];
+    const uint8_t element = 1;
+    size_t heard, written;
+    nx_live_lend(&receiver, room, channels);
+    answers("nx_live_open_from", nx_live_open_from(&receiver, (const uint8_t *)more, sizeof more - 1),
+            channels < 3 ? NX_LIVE_NO_CHANNEL : NX_LIVE_DONE);
+    nx_live_abandon(&receiver);
+    done("nx_live_open", nx_live_open(&receiver, 0));
+    for (uint8_t channel = 0; channel < 4; channel++) {
+        uint32_t wanted = channel < channels ? NX_LIVE_DONE : NX_LIVE_NO_CHANNEL;
+        answers("nx_live_hear",
+                nx_live_hear(&receiver, channel, &element, 1, &heard, entry, sizeof entry, &written), wanted);
+        answers("nx_live_refuse_station", nx_live_refuse_station(&receiver, channel, 'A'), wanted);
+    }
+    done("nx_live_save", nx_live_save(&receiver, state, sizeof state, &written));
+    nx_live_abandon(&receiver);
+    done("nx_live_open_from", nx_live_open_from(&receiver, state, written));
+    done("nx_live_close", nx_live_close(&receiver, entry, sizeof entry, &written));
+    answers("nx_live_close", nx_live_close(&receiver, entry, sizeof entry, &written), NX_LIVE_CLOSED);
+    nx_live_return(&receiver);
+}
+
+static int rooms(void) {
+    nx_live_return(&receiver);
+    for (int channels = 1; channels <= 3; channels++)
+        try_room(channels);
+    return 0;
+}
+
 /* Hears the elements of all lines, of channel 0, so often. */
 static int speed(size_t piece, int times) {
     static uint8_t elements[1 << 20];
@@ -162,15 +200,17 @@ static void take_bytes(void) {
 
 int main(int argument_count, char **arguments) {
     take_bytes();
-    nx_live_lend(&receiver, room);
+    nx_live_lend(&receiver, room, 3);
     if (argument_count == 3 && strcmp(arguments[1], "hear") == 0)
         return hear_file(strtoul(arguments[2], NULL, 10));
     if (argument_count == 4 && strcmp(arguments[1], "resume") == 0)
         return resume(arguments[2], arguments[3]);
     if (argument_count == 2 && strcmp(arguments[1], "entries") == 0)
         return entries();
+    if (argument_count == 2 && strcmp(arguments[1], "rooms") == 0)
+        return rooms();
     if (argument_count == 4 && strcmp(arguments[1], "speed") == 0)
         return speed(strtoul(arguments[2], NULL, 10), atoi(arguments[3]));
-    fputs("usage: live-air hear PIECE | resume STATE NEW | entries | speed PIECE TIMES\n", stderr);
+    fputs("usage: live-air hear PIECE | resume STATE NEW | entries | rooms | speed PIECE TIMES\n", stderr);
     return 2;
 }

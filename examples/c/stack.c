@@ -22,7 +22,12 @@ int wait(void);
 #define PAINT_OF_EIGHT 0xa5a5a5a5a5a5a5a5u
 #define ENTRIES 200 /* of each channel in a full state */
 
-static _Alignas(NX_LIVE_ROOM_ALIGNMENT) unsigned char room[NX_LIVE_ROOM];
+/* How many channels the receiver has. */
+#ifndef CHANNELS
+#define CHANNELS 3
+#endif
+
+static _Alignas(NX_LIVE_ROOM_ALIGNMENT) unsigned char room[NX_LIVE_ROOM(CHANNELS)];
 static uint8_t entry[NX_LIVE_MAX_ENTRY], state[NX_LIVE_MAX_STATE], element;
 static struct nx_live receiver;
 
@@ -108,12 +113,15 @@ static uint8_t *spelled(uint8_t *to, const char *text) {
     return to + strlen(text);
 }
 
-/* A full state: what can be refused is, and each channel remembers as much as it can. */
+/* A full state: what can be refused is, and each channel remembers as much as it can. What the
+ * receiver doesn't have is empty. */
 static size_t full_state(void) {
     static const char *const heads[] = {"STATE 2\nC0\n", "C1\n", "C2\n"};
     uint8_t *to = state;
     for (int channel = 0; channel < 3; channel++) {
         to = spelled(to, heads[channel]);
+        if (channel >= CHANNELS)
+            continue;
         for (char letter = 'A'; letter <= 'Z'; letter++)
             to = spelled(to, (const char[]){'R', 'S', ' ', letter, '\n', 0});
         for (char letter = 'C'; letter <= 'Z'; letter++)
@@ -151,11 +159,11 @@ static int hears(void) {
 int bare(void) {
     size_t written, length = full_state();
     int is_done = 1;
-    nx_live_lend(&receiver, room); /* clears the module's stack */
+    nx_live_lend(&receiver, room, CHANNELS); /* clears the module's stack */
     MEASURE_DONE(OPEN, nx_live_open(&receiver, now()));
     is_done &= hears();
     MEASURE_DONE(SET_MOMENT, nx_live_set_moment(&receiver, now() + 1));
-    MEASURE_DONE(REFUSE_STATION, nx_live_refuse_station(&receiver, 2, 'A'));
+    MEASURE_DONE(REFUSE_STATION, nx_live_refuse_station(&receiver, CHANNELS - 1, 'A'));
     MEASURE(ABANDON, nx_live_abandon(&receiver));
     MEASURE_DONE(OPEN_FROM, nx_live_open_from(&receiver, state, length));
     MEASURE_DONE(SAVE, nx_live_save(&receiver, state, sizeof state, &written));

@@ -3,7 +3,7 @@
 // its calls take addresses and lengths as BigInt all the same.
 
 const PAGE = 65536;
-export const ROOM = 22400;     // NX_LIVE_KEPT
+export const ROOM = 22392;     // NX_LIVE_KEPT
 export const MAX_ENTRY = 4163; // NX_LIVE_MAX_ENTRY
 const MAX_STATE = 12288;
 const MAX_ELEMENTS = 4096; // of one call; more are given in pieces
@@ -44,7 +44,7 @@ export class ReceiverFault extends Error {
 
 /** Where the things that a call reads and writes lie: one page of memory that only this file uses. */
 function layOut(start) {
-    const sizes = { handle: 8, room: ROOM, heard: 8, written: 8, elements: MAX_ELEMENTS,
+    const sizes = { handle: 16, room: ROOM, heard: 8, written: 8, elements: MAX_ELEMENTS,
         log: MAX_ENTRY, state: MAX_STATE };
     const places = {};
     let at = start;
@@ -74,7 +74,7 @@ export class Receiver {
         this.#calls = instance.exports;
         this.#memory = instance.exports.memory;
         this.#at = layOut(this.#memory.grow(1) * PAGE);
-        this.#calls.nx_live_lend(BigInt(this.#at.handle), BigInt(this.#at.room));
+        this.#calls.nx_live_lend_3(BigInt(this.#at.handle), BigInt(this.#at.room));
     }
 
     /** Opens it at a moment, in seconds since 1970. It remembers nothing. */

@@ -9,7 +9,7 @@ use Rattle.nx_fec.specs.Transfers.{Contents, whole_input}
 use Rattle.nx_fec.specs.Runs.{AnswersEncoding, AnswersWordRun, IsDecoded, file_limit}
 use Rattle.nx_fec.specs.declared.fault.RunFault.{RunFault}
 use Rattle.nx_fec.specs.declared.fault.RunFault.TheVariants as run
-use Rattle.nx_handle.specs.CallerRoom.{IsPut, Room}
+use Rattle.nx_handle.specs.CallerRoom.{IsCopiedOut, Room}
 use Rattle.nx_handle.specs.Status.{number_of}
 use Rattle.nx_handle.specs.declared.status.Status.TheVariants.{Done, StateNoRoom}
 use Rattle.nx_memory.specs.Saved.{AreSavedStates, SavedStates}
@@ -95,7 +95,7 @@ pub record TellsResuming (state air : List ℕ) (log new_state : Room) (a : Answ
   pub is_run : ResumesTo state air text left outcome
   pub status : ℕ
   pub told : IsTold (ended_told resume_told outcome) text log (answer status a.place)
-  pub handed_out : IsPut (handed status left) new_state
+  pub handed_out : IsCopiedOut (handed status left) new_state
   pub answered : a.status ≡ after_handing status (length left) (length new_state.old)
 
 -- ---- runs that write at their end

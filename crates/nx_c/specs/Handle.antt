@@ -7,7 +7,7 @@ use Rattle.std.specs.Prelude.{Option, None, Some}
 use Rattle.std.specs.Box.Ownership.{box_owns}
 use Rattle.std.specs.declared.alloc.Global.{Global}
 use Rattle.std.specs.contracts.impls.GlobalAllocator.TheImpl.{ghosts}
-use Rattle.nx_handle.specs.contracts.kept.Kept.{the_row}
+use Rattle.nx_c.specs.contracts.receiver.open_receiver.OpenReceiver.{the_row}
 
 -- the C library's heap, of which there is one
 abbrev pub heap : Global
@@ -18,5 +18,5 @@ abbrev pub handle_owns : Ptr → Option the_row.Denot → Fml
 handle_owns p None = feq Ptr p null_ptr
 handle_owns p (Some x) = box_owns (ghosts.dealloc_token heap) the_row p x
 
-abbrev pub kept_coded : Coded (Option the_row.Denot)
-kept_coded = coded_option the_row.coded
+abbrev pub open_coded : Coded (Option the_row.Denot)
+open_coded = coded_option the_row.coded

@@ -2,7 +2,7 @@
 use Rattle.std.specs.Prelude.{◌≡◌, ℕ, List, length, Result, Ok, Err}
 use Rattle.nx_c.specs.declared.told.Place.{Place}
 use Rattle.nx_c.specs.declared.told.Told.{Told}
-use Rattle.nx_handle.specs.CallerRoom.{IsPut, Room, after_putting}
+use Rattle.nx_handle.specs.CallerRoom.{IsCopiedOut, Room, after_copying_out}
 use Rattle.nx_handle.specs.Status.{number_of}
 use Rattle.nx_handle.specs.declared.status.Status.{Status}
 use Rattle.nx_handle.specs.declared.status.Status.TheVariants as status
@@ -31,12 +31,12 @@ abbrev pub ended_told : {N F : Type 0} → (F → Told) → Result N F → Told
 ended_told told_of (Ok answer) = told status.Done
 ended_told told_of (Err fault) = told_of fault
 
--- This was told, and this text was put into the caller's room.
+-- This was told, and this text was copied into the caller's room.
 pub record IsTold (told : Told) (text : List ℕ) (r : Room) (a : Answer) : Type 0 where
-  pub put : IsPut text r
+  pub copied : IsCopiedOut text r
   pub place : a.place ≡ told.place
   pub status :
-      a.status ≡ number_of (after_putting (length text) (length r.old) told.status)
+      a.status ≡ number_of (after_copying_out (length text) (length r.old) told.status)
 
 -- A call over slices: a text and an outcome of which this holds were told so.
 pub record Tells {N F : Type 0} (IsRun : List ℕ → Result N F → Type 0) (told_of : F → Told)

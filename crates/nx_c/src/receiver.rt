@@ -1,5 +1,6 @@
-//! A receiver that is kept between calls: its handle, and the calls that take it.
+//! A receiver between calls: its handle, and the calls that take it.
 
 pub(crate) mod calls;
 pub(crate) mod handle;
 pub(crate) mod loose;
+pub(crate) mod open_receiver;

@@ -4,7 +4,7 @@ ghost use Rattle.std.specs.Prelude.{◌≡◌, ◌≢◌, ◌≤◌, [], length,
 ghost use Rattle.nx_c.specs.Calls.{GoesOnTo, HasResumed, ListensTo, ResumesTo, TellsResuming, after_handing, handed, written_anew};
 ghost use Rattle.nx_c.specs.Faults.{listen_told, resume_told};
 ghost use Rattle.nx_c.specs.Told.{Tells, answer};
-ghost use Rattle.nx_handle.specs.CallerRoom.{IsPut, room};
+ghost use Rattle.nx_handle.specs.CallerRoom.{IsCopiedOut, room};
 ghost use Rattle.nx_handle.specs.Status.{number_of};
 ghost use Rattle.nx_handle.specs.declared.status.Status.TheVariants.{Done, StateNoRoom};
 ghost use Rattle.nx_memory.specs.Saved.{AreSavedStates};
@@ -16,12 +16,13 @@ ghost use Rattle.nx_receiver.specs.air_file_runs.State.{BeginsWith, state_bytes}
 use crate::faults::{listen_told, resume_told, told};
 use crate::told::{Place, tell};
 use nx_fec::{Counting, WriteFault};
-use nx_handle::{Status, put};
+use nx_handle::{Status, copy_out};
 use nx_memory::SavedSet;
 use nx_receiver::{Report, ResumeFault, listen, listen_from, read_state, write_state};
 use std::alloc::Global;
 
-/// Listens to an air file, as `nx_receiver::listen` does, and puts its log into the caller's room.
+/// Listens to an air file, as `nx_receiver::listen` does, and copies its log into the caller's
+/// room.
 ///
 /// `written` is the length of the whole log; where there is no room for all of it, its first bytes
 /// stand in the room, and all done is told as `NoRoom`. After a fault it is the log of the whole
@@ -50,11 +51,11 @@ pub extern "C" fn nx_listen(
 }
 
 /// Reads the state with which `state` begins, and listens to an air file, going on from it, as
-/// `nx_receiver::listen_from` does. Puts the log and the text of what the run leaves into the
+/// `nx_receiver::listen_from` does. Copies the log and the text of what the run leaves into the
 /// caller's rooms for them. What stands behind the state isn't read.
 ///
-/// The log is put as by `nx_listen`. The new state is handed out only where all succeeded and the
-/// log has room: else `state_written` is 0, and the room for it stays as it was.
+/// The log is copied as by `nx_listen`. The new state is handed out only where all succeeded and
+/// the log has room: else `state_written` is 0, and the room for it stays as it was.
 #[unsafe(no_mangle)]
 pub extern "C" fn nx_resume(
     alloc: Global,
@@ -88,7 +89,7 @@ pub extern "C" fn nx_resume(
 /// Hands out the text of a new state, only where the status before it says that all is done, and
 /// answers the status behind it.
 fn hand_out(status: u32, left: &[u8], new_state: &mut [u8], state_written: &mut usize) -> u32
-    ensures handed { IsPut (handed status left.now)
+    ensures handed { IsCopiedOut (handed status left.now)
         (room new_state.old new_state.new state_written.new) }
     ensures status { result ≡ after_handing status (length left.now) (length new_state.old) }
     ensures done { result ≡ number_of Done
@@ -98,10 +99,10 @@ fn hand_out(status: u32, left: &[u8], new_state: &mut [u8], state_written: &mut 
         → (state_written.new ≡ 0) × (new_state.new ≡ new_state.old) }
 {
     if status != Status::Done.number() {
-        put(&[], new_state, state_written);
+        copy_out(&[], new_state, state_written);
         return status;
     }
-    put(left, new_state, state_written);
+    copy_out(left, new_state, state_written);
     if left.len() > new_state.len() {
         return Status::StateNoRoom.number();
     }

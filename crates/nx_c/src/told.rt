@@ -6,7 +6,7 @@ ghost use Rattle.nx_handle.specs.CallerRoom.{room};
 ghost use Rattle.nx_handle.specs.Status.{number_of};
 ghost use Rattle.nx_handle.specs.declared.status.Status.TheVariants.{Done};
 
-use nx_handle::{Status, after_putting, put};
+use nx_handle::{Status, after_copying_out, copy_out};
 
 /// Where a fault stands. A number that the fault doesn't have is 0.
 #[repr(C)]
@@ -41,7 +41,7 @@ pub(crate) fn tell(
     ensures done { result ≡ number_of Done → (told.status ≡ Done)
         × (written.new ≤ length space.old) × (take written.new space.new ≡ text.now) }
 {
-    put(text, space, written);
+    copy_out(text, space, written);
     *place = told.place;
-    after_putting(text.len(), space.len(), told.status).number()
+    after_copying_out(text.len(), space.len(), told.status).number()
 }

@@ -1,5 +1,11 @@
 -- Lemmas that several proofs cite.
+pub mod Places
 pub mod Receivers
+pub mod Silent
+pub mod Heard
+pub mod Begun
+pub mod New
+pub mod Moments
 pub mod Room
 pub mod Closing
 pub mod Hearing

@@ -1,4 +1,4 @@
--- What a call puts into the caller's room (this profile).
+-- What a call copies into the caller's room (this profile).
 use Rattle.std.specs.Prelude.{◌≡◌, ℕ, nat_lt, if◌then◌else◌, List, ◌++◌, length, take, drop, min}
 use Rattle.nx_handle.specs.declared.status.Status.{Status}
 use Rattle.nx_handle.specs.declared.status.Status.TheVariants as status
@@ -13,17 +13,17 @@ pub record Room : Type 0 where
 abbrev pub room : List ℕ → List ℕ → ℕ → Room
 room old new written = record { old = old; new = new; written = written }
 
--- The text was put into the room, as much of it as there is room for, and what stood behind it in
+-- The text was copied into the room, as much of it as there is room for, and what stood behind it in
 -- the room stayed. Its bytes are counted, those too for which there was no room.
-pub record IsPut (text : List ℕ) (r : Room) : Type 0 where
-  pub put : r.new
+pub record IsCopiedOut (text : List ℕ) (r : Room) : Type 0 where
+  pub copied : r.new
       ≡ take (min (length text) (length r.old)) text
       ++ drop (min (length text) (length r.old)) r.old
   pub counted : r.written ≡ length text
 
--- a status, where a text of so many bytes is put into a room of so many: all is done, but for the
--- room
-abbrev pub after_putting : ℕ → ℕ → Status → Status
-after_putting count capacity status.Done =
+-- a status, where a text of so many bytes is copied into a room of so many: all is done, but for
+-- the room
+abbrev pub after_copying_out : ℕ → ℕ → Status → Status
+after_copying_out count capacity status.Done =
     if nat_lt capacity count then status.NoRoom else status.Done
-after_putting count capacity other = other
+after_copying_out count capacity other = other

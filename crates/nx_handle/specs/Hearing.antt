@@ -1,6 +1,6 @@
 -- What hearing elements answers (this profile).
-use Rattle.std.specs.Prelude.{◌≡◌, ◌≢◌, ℕ, ◌<◌, ◌≤◌, ◌==◌, nat_lt, Bool, not, if◌then◌else◌, List, []}
-use Rattle.std.specs.Prelude.{◌++◌, length, map, take, Option, Some, None}
+use Rattle.std.specs.Prelude.{◌≡◌, ◌≢◌, ℕ, ◌<◌, ◌≤◌, ◌==◌, nat_lt, Bool, true, false, not, if◌then◌else◌, List, []}
+use Rattle.std.specs.Prelude.{◌++◌, length, map, take}
 use Rattle.std.specs.List.{list_all}
 use Rattle.nx_fec.specs.air_files.Channels.{channel_number}
 use Rattle.nx_fec.specs.declared.air_files.channel.Channel.{Channel}
@@ -10,13 +10,14 @@ use Rattle.nx_copies.specs.copies.FoundCopies.{TaggedCopy}
 use Rattle.nx_copies.specs.copies.InTurn.{PrintsInTurn}
 use Rattle.nx_receiver.specs.Listener.{then_elements}
 use Rattle.nx_receiver.specs.Receiver.{HandsOutNoneBefore, Stands}
-use Rattle.nx_handle.specs.Receivers.{HearsGiven, Listening, OneReceiver, content}
+use Rattle.nx_handle.specs.Receivers.{OneReceiver, content}
 use Rattle.nx_copies.specs.copies.Log.{IsEntry, IsLog}
 use Rattle.nx_copies.specs.copies.Shares.{Given, MarkedCopy, Starts, marked}
-use Rattle.nx_handle.specs.Life.{hearing}
+use Rattle.nx_handle.specs.Life.{HasHeard}
+use Rattle.nx_handle.specs.Places.{all_hear}
 use Rattle.nx_handle.specs.Status.{number_of}
-use Rattle.nx_handle.specs.CallerRoom.{IsPut, Room}
-use Rattle.nx_handle.specs.declared.kept.Kept.{Kept}
+use Rattle.nx_handle.specs.CallerRoom.{IsCopiedOut, Room}
+use Rattle.nx_handle.specs.declared.places.Place.{Place}
 use Rattle.nx_handle.specs.declared.status.Status.{Status}
 use Rattle.nx_handle.specs.declared.status.Status.TheVariants as status
 
@@ -34,26 +35,26 @@ elements_of bytes = map element_of bytes
 abbrev pub longest_entry : ℕ
 longest_entry = 4163
 
--- the entry of a copy is put into the room
-pub record PutsEntry (copy : MarkedCopy) (log : Room) : Type 0 where
+-- the entry of a copy is copied into the room
+pub record CopiesEntryOut (copy : MarkedCopy) (log : Room) : Type 0 where
   pub bytes : List ℕ
   pub spelled : IsEntry copy bytes
   pub short : length bytes ≤ longest_entry
-  pub put : IsPut bytes log
+  pub copied : IsCopiedOut bytes log
 
--- the status of a request to hear elements of a channel, with room for so many bytes, as many as an
--- entry can need
-abbrev pub request_status : ℕ → List ℕ → ℕ → Status
-request_status channel bytes capacity =
-    if nat_lt 2 channel then status.NoChannel
+-- the status of a request to hear elements of a channel, of so many, with room for so many bytes,
+-- as many as an entry can need
+abbrev pub request_status : ℕ → ℕ → List ℕ → ℕ → Status
+request_status channel count bytes capacity =
+    if not (nat_lt channel count) then status.NoChannel
     else if not (list_all is_element bytes) then status.NoElement
     else if nat_lt capacity longest_entry then status.NoRoom
     else status.Done
 
 -- the same, of a receiver that hears, or doesn't
-abbrev pub hearing_status : Option Listening → ℕ → List ℕ → ℕ → Status
-hearing_status None channel bytes capacity = status.Closed
-hearing_status (Some listener) channel bytes capacity = request_status channel bytes capacity
+abbrev pub hearing_status : Bool → ℕ → ℕ → List ℕ → ℕ → Status
+hearing_status false channel count bytes capacity = status.Closed
+hearing_status true channel count bytes capacity = request_status channel count bytes capacity
 
 -- The receiver of a channel hears elements, whatever it was given before, and this is the log of
 -- the copies that they print: none, or one, which the last of them ends. No element before the last
@@ -70,12 +71,12 @@ pub record HearsOn (channel : Channel) (old new : OneReceiver) (bits : List Bool
   pub first : HandsOutNoneBefore content old bits (length bits)
 
 -- So many of the elements of these bytes are heard so, and the entry of the copy that they print is
--- put into the room; all, where nothing is printed.
-pub record HearsAndPuts (Hears : List Bool → List ℕ → Type 0) (bytes : List ℕ) (heard : ℕ)
+-- copied into the room; all, where nothing is printed.
+pub record HearsAndCopiesOut (Hears : List Bool → List ℕ → Type 0) (bytes : List ℕ) (heard : ℕ)
     (log : Room)
     : Type 0 where
   pub text : List ℕ
-  pub put : IsPut text log
+  pub copied : IsCopiedOut text log
   pub short : length text ≤ longest_entry
   pub within : heard ≤ length bytes
   pub hears : Hears (elements_of (take heard bytes)) text
@@ -83,46 +84,47 @@ pub record HearsAndPuts (Hears : List Bool → List ℕ → Type 0) (bytes : Lis
 
 -- Elements of a channel are heard, and this is the log of the copies that they print: none, or one,
 -- which the last of them ends. Whatever was given before, and however much of these elements at
--- once: the receivers then stand after them too, and no element before the last printed anything.
-pub record HearsElements (channel : Channel) (old new : Listening) (bits : List Bool)
+-- once: the receiver then stands after them too, and no element before the last printed anything.
+pub record HearsElements (channel : Channel) (old new : List Place) (bits : List Bool)
     (text : List ℕ)
     : Type 0 where
   pub next : List TaggedCopy
   pub few : length next ≤ 1
   pub spelled : IsLog (map (marked channel) next) text
   pub heard : (starts : Starts) (given : List Given) (part : List Bool) (copies : List MarkedCopy)
-      → HearsGiven starts old (then_elements given channel part) copies
-      → HearsGiven starts new (then_elements given channel (part ++ bits))
+      → HasHeard starts old (then_elements given channel part) copies
+      → HasHeard starts new (then_elements given channel (part ++ bits))
       (copies ++ map (marked channel) next)
   pub first : (starts : Starts) (given : List Given) (part : List Bool) (copies : List MarkedCopy)
-      → HearsGiven starts old (then_elements given channel part) copies
+      → HasHeard starts old (then_elements given channel part) copies
       → (k : ℕ) → k < length bits
       → PrintsInTurn starts (then_elements given channel (part ++ take k bits)) copies
 
--- So many of the elements of these bytes are heard on the channel of this number; all, where
--- nothing is printed.
-pub record HearsBytes (channel : ℕ) (old new : Option Kept) (bytes : List ℕ) (heard : ℕ)
+-- So many of the elements of these bytes are heard on the channel of this number, which the
+-- receiver has; all, where nothing is printed. It hears, and goes on to hear.
+pub record HearsBytes (channel : ℕ) (old new : List Place) (bytes : List ℕ) (heard : ℕ)
     (text : List ℕ)
     : Type 0 where
   pub on : Channel
   pub is : channel_number on ≡ channel
-  pub listener : Listening
-  pub was : hearing old ≡ Some listener
-  pub after : Listening
-  pub now : hearing new ≡ Some after
+  pub has_channel : channel < length old
+  pub was : all_hear old ≡ true
+  pub now : all_hear new ≡ true
   pub within : heard ≤ length bytes
-  pub hears : HearsElements on listener after (elements_of (take heard bytes)) text
+  pub hears : HearsElements on old new (elements_of (take heard bytes)) text
   pub all : text ≡ [] → heard ≡ length bytes
 
 -- Hearing elements: the status has its cause. Where all is done, they are heard, and the bytes of
--- the entry are put into the room, which has room for them. Else nothing is heard, the receiver
--- stays as it was, and nothing is put.
-pub record AnswersHearing (channel : ℕ) (bytes : List ℕ) (old new : Option Kept) (heard : ℕ)
+-- the entry are copied into the room, which has room for them. Else nothing is heard, the receiver
+-- stays as it was, and nothing is copied. Its channels stay.
+pub record AnswersHearing (channel : ℕ) (bytes : List ℕ) (old new : List Place) (heard : ℕ)
     (log : Room) (answer : ℕ)
     : Type 0 where
-  pub cause : answer ≡ number_of (hearing_status (hearing old) channel bytes (length log.old))
+  pub cause : answer
+      ≡ number_of (hearing_status (all_hear old) channel (length old) bytes (length log.old))
   pub text : List ℕ
-  pub put : IsPut text log
+  pub copied : IsCopiedOut text log
   pub fits : length text ≤ length log.old
   pub done : answer ≡ 0 → HearsBytes channel old new bytes heard text
   pub refused : answer ≢ 0 → (new ≡ old) × (heard ≡ 0) × (text ≡ [])
+  pub channels : length new ≡ length old

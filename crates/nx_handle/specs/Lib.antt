@@ -1,6 +1,7 @@
 pub mod Status
 pub mod CallerRoom
 pub mod Receivers
+pub mod Places
 pub mod Life
 pub mod Opening
 pub mod Hearing
@@ -9,3 +10,4 @@ pub mod Selecting
 pub mod Saving
 pub mod LogEntry
 pub mod WholeLife
+pub mod private

@@ -8,7 +8,7 @@ use Rattle.nx_log.specs.View.{IsViewOf}
 use Rattle.nx_log.specs.declared.entries.entry.EntryView.{EntryView}
 use Rattle.nx_copies.specs.copies.Shares.{MarkedCopy}
 use Rattle.nx_handle.specs.Status.{number_of}
-use Rattle.nx_handle.specs.CallerRoom.{IsPut, Room, after_putting}
+use Rattle.nx_handle.specs.CallerRoom.{IsCopiedOut, Room, after_copying_out}
 use Rattle.nx_handle.specs.declared.entries.LogEntry.{LogEntry}
 use Rattle.nx_handle.specs.declared.status.Status.TheVariants as status
 
@@ -43,12 +43,12 @@ abbrev pub BeginsWithNone : List ℕ → Type 0
 BeginsWithNone bytes =
     (one : MarkedCopy) (entry more : List ℕ) → IsLoggedAs one entry → bytes ≢ entry ++ more
 
--- Reading an entry: it is told, its text is put into the room, and the status says whether the room
--- held it; or there is none, what was told before stays, and nothing is put.
+-- Reading an entry: it is told, its text is copied into the room, and the status says whether the
+-- room held it; or there is none, what was told before stays, and nothing is copied.
 pub record AnswersEntry (bytes : List ℕ) (old new : LogEntry) (room : Room) (answer : ℕ)
     : Type 0 where
   pub text : List ℕ
-  pub put : IsPut text room
+  pub copied : IsCopiedOut text room
   pub reads : (ReadsEntry bytes new text
-      × (answer ≡ number_of (after_putting (length text) (length room.old) status.Done)))
+      × (answer ≡ number_of (after_copying_out (length text) (length room.old) status.Done)))
       ⊎ (BeginsWithNone bytes × (answer ≡ number_of status.NoEntry) × (new ≡ old) × (text ≡ []))

@@ -1,28 +1,29 @@
 -- What opening a receiver answers, and setting its moment (this profile).
-use Rattle.std.specs.Prelude.{◌≡◌, ◌≢◌, ℕ, nat_lt, if◌then◌else◌, List, [], ◌∷◌, Option, Some, None}
+use Rattle.std.specs.Prelude.{◌≡◌, ◌≢◌, ℕ, nat_lt, Bool, true, false, if◌then◌else◌, List, [], ◌∷◌, length}
 use Rattle.nx_envelope.specs.Moment.{last_moment}
 use Rattle.nx_receiver.specs.Listener.{moment_in_force, then_moment}
-use Rattle.nx_handle.specs.Receivers.{HearsGiven, Listening}
 use Rattle.nx_copies.specs.copies.Shares.{Given, MarkedCopy, Starts, all_at_zero, to_all}
 use Rattle.nx_receiver.specs.declared.fault.MomentFault.{MomentFault}
 use Rattle.nx_receiver.specs.declared.fault.MomentFault.TheVariants as moment
 use Rattle.nx_handle.specs.Life.{HasHeard}
+use Rattle.nx_handle.specs.Places.{all_closed}
 use Rattle.nx_handle.specs.Status.{number_of}
-use Rattle.nx_handle.specs.declared.kept.Kept.{Kept}
+use Rattle.nx_handle.specs.declared.places.Place.{Place}
 use Rattle.nx_handle.specs.declared.status.Status.{Status}
 use Rattle.nx_handle.specs.declared.status.Status.TheVariants as status
 
--- the status of opening a receiver at a moment
-abbrev pub opening_status : Option Kept → ℕ → Status
-opening_status (Some kept) moment = status.AlreadyOpen
-opening_status None moment = if nat_lt last_moment moment then status.MomentRange else status.Done
+-- the status of opening a receiver, which is closed or isn't, at a moment
+abbrev pub opening_status : Bool → ℕ → Status
+opening_status false moment = status.AlreadyOpen
+opening_status true moment = if nat_lt last_moment moment then status.MomentRange else status.Done
 
 -- Opening a receiver at a moment: it has heard nothing but the moment, and starts with nothing.
--- The status has its cause; where it isn't done, the receiver stays as it was.
-pub record AnswersOpening (moment : ℕ) (old new : Option Kept) (answer : ℕ) : Type 0 where
-  pub cause : answer ≡ number_of (opening_status old moment)
+-- The status has its cause; where it isn't done, the receiver stays as it was. Its channels stay.
+pub record AnswersOpening (moment : ℕ) (old new : List Place) (answer : ℕ) : Type 0 where
+  pub cause : answer ≡ number_of (opening_status (all_closed old) moment)
   pub done : answer ≡ 0 → HasHeard all_at_zero new (to_all moment ∷ []) []
   pub refused : answer ≢ 0 → new ≡ old
+  pub channels : length new ≡ length old
 
 -- the status that the fault of a moment tells
 abbrev pub moment_told : MomentFault → Status
@@ -39,19 +40,19 @@ moment_status last moment =
 -- Setting the moment of a receiver that hears and stands after what it was given. It then stands
 -- after the moment too, which belongs to all channels; or the moment is refused, and it stays as it
 -- was.
-pub record SetsMoment (moment : ℕ) (old new : Option Kept) (answer : ℕ) (starts : Starts)
+pub record SetsMoment (moment : ℕ) (old new : List Place) (answer : ℕ) (starts : Starts)
     (given : List Given) (copies : List MarkedCopy)
     : Type 0 where
   pub cause : answer ≡ number_of (moment_status (moment_in_force starts.moment given) moment)
   pub done : answer ≡ 0 → HasHeard starts new (then_moment given moment) copies
   pub refused : answer ≢ 0 → new ≡ old
+  pub channels : length new ≡ length old
 
 -- Setting the moment: of a receiver that hears, so; another is told to be closed, and stays as it
 -- was.
-abbrev pub AnswersMoment : ℕ → Option Kept → Option Kept → ℕ → Option Listening → Type 0
-AnswersMoment moment old new answer None =
+abbrev pub AnswersMoment : ℕ → List Place → List Place → ℕ → Bool → Type 0
+AnswersMoment moment old new answer false =
     (answer ≡ number_of status.Closed) × (new ≡ old)
-AnswersMoment moment old new answer (Some listener) =
+AnswersMoment moment old new answer true =
     (starts : Starts) (given : List Given) (copies : List MarkedCopy)
-    → HearsGiven starts listener given copies
-    → SetsMoment moment old new answer starts given copies
+    → HasHeard starts old given copies → SetsMoment moment old new answer starts given copies

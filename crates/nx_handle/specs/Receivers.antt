@@ -1,6 +1,8 @@
--- The three receivers that a handle keeps; their memories are plain lists (this profile).
+-- The receivers of three channels; their memories are plain lists (this profile).
 use Rattle.std.specs.Prelude.{false, List, length}
 use Rattle.nx_fec.specs.Transfers.{count_of}
+use Rattle.nx_fec.specs.declared.air_files.channel.Channel.{Channel}
+use Rattle.nx_fec.specs.declared.air_files.channel.Channel.TheVariants.{Zero, One, Two}
 use Rattle.nx_memory.specs.declared.memories.entry.MemoryEntry.{MemoryEntry}
 use Rattle.nx_receiver.specs.Listener.{HearsOver, ListeningOver, elements_given}
 use Rattle.nx_receiver.specs.Receiver.{Receiving}
@@ -21,6 +23,12 @@ pub record Listening : Type 0 where
 
 abbrev pub three : OneReceiver → OneReceiver → OneReceiver → Listening
 three on_0 on_1 on_2 = record { on_0 = on_0; on_1 = on_1; on_2 = on_2 }
+
+-- the receiver of a channel, of three
+abbrev pub one_on : Listening → Channel → OneReceiver
+one_on listening Zero = listening.on_0
+one_on listening One = listening.on_1
+one_on listening Two = listening.on_2
 
 -- a listener of these receivers, which counted what was given and what was printed
 abbrev pub counted : Listening → List Given → List MarkedCopy → ListeningOver OneReceiver

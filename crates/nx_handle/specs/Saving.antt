@@ -1,24 +1,27 @@
 -- What saving a receiver answers, and opening one from what is saved (this profile).
-use Rattle.std.specs.Prelude.{◌≡◌, ◌≢◌, ◌⊎◌, ℕ, ◌+◌, ◌*◌, ◌<◌, ◌≤◌, List, [], ◌∷◌, ◌++◌, length, Option}
-use Rattle.std.specs.Prelude.{Some, None, Result, Ok, Err, codes, take}
+use Rattle.std.specs.Prelude.{◌≡◌, ◌≢◌, ◌⊎◌, ◌||◌, ℕ, ◌+◌, ◌*◌, ◌<◌, ◌≤◌, Bool, true, false, List, [], ◌∷◌}
+use Rattle.std.specs.Prelude.{◌++◌, length, IsTrue, Result, Ok, Err, codes, take}
+use Rattle.std.specs.FinSet as set
 use Rattle.nx_code.specs.Reading.{capitals, newline}
 use Rattle.nx_fec.specs.Transfers.{whole_input}
+use Rattle.nx_fec.specs.air_files.Channels.{channel_number}
 use Rattle.nx_fec.specs.declared.air_files.channel.Channel.{Channel}
 use Rattle.nx_memory.specs.Memory.{most_entries}
-use Rattle.nx_memory.specs.Saved.{AreSavedStates, SavedStates}
+use Rattle.nx_memory.specs.Saved.{AreSavedStates, SavedState, SavedStates, nothing_saved}
 use Rattle.nx_memory.specs.Selection.{Refused}
 use Rattle.nx_memory.specs.declared.memories.entry.MemoryEntry.{MemoryEntry}
-use Rattle.nx_memory.specs.StateText.{BeginsNoText, BeginsText, IsShortLine, longest_saved_line}
+use Rattle.nx_memory.specs.StateText.{BeginsNoText, BeginsText, IsShortLine, IsStateText}
+use Rattle.nx_memory.specs.StateText.{longest_saved_line}
 use Rattle.nx_receiver.specs.air_file_runs.Chain.{Leaves}
-use Rattle.nx_handle.specs.Receivers.{HearsGiven, Listening}
 use Rattle.nx_copies.specs.Events.{Start}
 use Rattle.nx_copies.specs.copies.Shares.{Given, MarkedCopy, Starts, saved_of, share, start_on, starts_from}
 use Rattle.nx_receiver.specs.air_file_runs.State.{BeginsWith, ExplainsState, ended_lines, state_bytes}
 use Rattle.nx_receiver.specs.declared.air_file_runs.state_fault.StateFault.TheVariants as state
-use Rattle.nx_handle.specs.Life.{HasHeard, hearing}
+use Rattle.nx_handle.specs.Life.{HasHeard}
+use Rattle.nx_handle.specs.Places.{HasChannel, all_closed, all_hear}
 use Rattle.nx_handle.specs.Status.{number_of}
-use Rattle.nx_handle.specs.CallerRoom.{IsPut, Room, after_putting}
-use Rattle.nx_handle.specs.declared.kept.Kept.{Kept}
+use Rattle.nx_handle.specs.CallerRoom.{IsCopiedOut, Room, after_copying_out}
+use Rattle.nx_handle.specs.declared.places.Place.{Place}
 use Rattle.nx_handle.specs.declared.status.Status.{Status}
 use Rattle.nx_handle.specs.declared.status.Status.TheVariants as status
 
@@ -27,28 +30,32 @@ use Rattle.nx_handle.specs.declared.status.Status.TheVariants as status
 abbrev pub longest_state : ℕ
 longest_state = 21 + 3 * (capitals * 5 + capitals * 5 + most_entries * (longest_saved_line + 1))
 
--- The text spells what these receivers leave of all channels, whatever they were given.
-pub record Saves (listener : Listening) (text : List ℕ) : Type 0 where
+-- The text spells what the receiver leaves of all channels that it has, whatever they were given;
+-- and nothing of the others.
+pub record Saves (places : List Place) (text : List ℕ) : Type 0 where
   pub left : SavedStates
   pub sound : AreSavedStates left
   pub leaves : (starts : Starts) (given : List Given) (copies : List MarkedCopy)
-      → HearsGiven starts listener given copies → (channel : Channel)
+      → HasHeard starts places given copies → (channel : Channel) → HasChannel places channel
       → Leaves (start_on starts channel) (share channel given) (saved_of left channel)
+  pub others : (channel : Channel) → length places ≤ channel_number channel
+      → saved_of left channel ≡ nothing_saved
   pub spelled : text ≡ state_bytes left
   pub fits : length text ≤ longest_state
 
 -- Saving. The text is that of what the receiver leaves that hears, and the status says whether the
 -- room held it. Another receiver is told to be closed.
-abbrev pub SavesBy : Option Listening → List ℕ → ℕ → ℕ → Type 0
-SavesBy None text capacity answer = (answer ≡ number_of status.Closed) × (text ≡ [])
-SavesBy (Some listener) text capacity answer =
-    Saves listener text × (answer ≡ number_of (after_putting (length text) capacity status.Done))
+abbrev pub SavesBy : Bool → List Place → List ℕ → ℕ → ℕ → Type 0
+SavesBy false places text capacity answer = (answer ≡ number_of status.Closed) × (text ≡ [])
+SavesBy true places text capacity answer =
+    Saves places text
+    × (answer ≡ number_of (after_copying_out (length text) capacity status.Done))
 
 -- The receiver stays as it was, whatever the status.
-pub record AnswersSaving (old new : Option Kept) (state : Room) (answer : ℕ) : Type 0 where
+pub record AnswersSaving (old new : List Place) (state : Room) (answer : ℕ) : Type 0 where
   pub text : List ℕ
-  pub put : IsPut text state
-  pub saves : SavesBy (hearing old) text (length state.old) answer
+  pub copied : IsCopiedOut text state
+  pub saves : SavesBy (all_hear old) old text (length state.old) answer
   pub unchanged : new ≡ old
 
 -- So many bytes has the first line of these, without its line feed. Or they begin with no line of a
@@ -72,6 +79,25 @@ pub record StandsNext (lines : List (List ℕ)) (line bytes : List ℕ) : Type 0
   pub whole : bytes ≡ ended_lines lines ++ ((line ++ newline ∷ []) ++ more)
   pub refused : line ≢ codes "END" → BeginsNoText (lines ++ line ∷ [])
 
+-- a station or a subject with this letter is refused
+abbrev pub RefusesLetter : Refused → ℕ → Type 0
+RefusesLetter refused letter =
+    IsTrue (set.contains refused.stations letter || set.contains refused.subjects letter)
+
+-- no station and no subject is refused
+abbrev pub RefusesNone : Refused → Type 0
+RefusesNone refused = (letter : ℕ) → RefusesLetter refused letter → ⊥
+
+-- nothing is saved of a channel: there is no entry, and nothing is refused
+pub record HasNothing (saved : SavedState) : Type 0 where
+  pub entries : saved.entries ≡ []
+  pub selected : RefusesNone saved.refused
+
+-- nothing is saved of channels behind the first so many
+abbrev pub HasNoMore : ℕ → SavedStates → Type 0
+HasNoMore count states =
+    (channel : Channel) → count ≤ channel_number channel → HasNothing (saved_of states channel)
+
 -- These bytes begin with no state, and the status says why.
 abbrev pub RefusesText : List ℕ → Status → Type 0
 RefusesText bytes why =
@@ -80,24 +106,42 @@ RefusesText bytes why =
     ⊎ ((line : ℕ) × ExplainsState whole_input bytes (state.StateCut line)
     × (why ≡ status.StateCut))
 
+-- These bytes begin with no state of so many channels, and the status says why: with none, or with
+-- one that has more.
+abbrev pub RefusesState : ℕ → List ℕ → Status → Type 0
+RefusesState count bytes why =
+    RefusesText bytes why
+    ⊎ (BeginsWith bytes (λ states more. HasNoMore count states → ⊥) × (why ≡ status.NoChannel))
+
+-- The line can't be the last one of a state behind these lines; or it is, and the state has more
+-- than so many channels. The status says which.
+abbrev pub RefusesEnd : ℕ → List (List ℕ) → List ℕ → Status → Type 0
+RefusesEnd count lines last why =
+    ((last ≡ codes "END" → BeginsNoText (lines ++ last ∷ [])) × (why ≡ status.StateLine))
+    ⊎ (((states : SavedStates) × IsStateText (lines ++ last ∷ []) states
+    × (HasNoMore count states → ⊥)) × (why ≡ status.NoChannel))
+
 -- a start with these entries, this moment, and what is refused
 abbrev pub start_with : List MemoryEntry → ℕ → Refused → Start
 start_with entries moment refused =
     record { entries = entries; moment = moment; refused = refused }
 
--- These bytes begin with a state, and a receiver is opened that starts with it and has heard
--- nothing. Or a line of theirs can't stand where it stands, or they end before the state: then the
--- receiver stays closed.
-abbrev pub OpensFrom : List ℕ → Option Kept → ℕ → Type 0
-OpensFrom bytes new answer =
-    BeginsWith bytes (λ states more. (answer ≡ 0) × HasHeard (starts_from states) new [] [])
-    ⊎ (((line : ℕ) × ExplainsState whole_input bytes (state.StateLine line)
-    × (answer ≡ number_of status.StateLine) × (new ≡ None))
-    ⊎ ((line : ℕ) × ExplainsState whole_input bytes (state.StateCut line)
-    × (answer ≡ number_of status.StateCut) × (new ≡ None)))
+-- These bytes begin with a state that has nothing of a channel which the receiver doesn't have. The
+-- receiver starts with it, and has heard nothing. Or the status says why they don't, and the
+-- receiver stays as it was.
+abbrev pub OpensFrom : List ℕ → List Place → List Place → ℕ → Type 0
+OpensFrom bytes old new answer =
+    BeginsWith bytes (λ states more. (answer ≡ 0) × HasNoMore (length old) states
+    × HasHeard (starts_from states) new [] [])
+    ⊎ ((why : Status) × RefusesState (length old) bytes why × (answer ≡ number_of why)
+    × (new ≡ old))
 
 -- Opening a closed receiver from what is saved; one that is open stays as it was.
-abbrev pub AnswersOpeningFrom : List ℕ → Option Kept → Option Kept → ℕ → Type 0
-AnswersOpeningFrom bytes (Some kept) new answer =
-    (answer ≡ number_of status.AlreadyOpen) × (new ≡ Some kept)
-AnswersOpeningFrom bytes None new answer = OpensFrom bytes new answer
+abbrev pub OpensFromBy : Bool → List ℕ → List Place → List Place → ℕ → Type 0
+OpensFromBy false bytes old new answer = (answer ≡ number_of status.AlreadyOpen) × (new ≡ old)
+OpensFromBy true bytes old new answer = OpensFrom bytes old new answer
+
+-- Its channels stay.
+pub record AnswersOpeningFrom (bytes : List ℕ) (old new : List Place) (answer : ℕ) : Type 0 where
+  pub opens : OpensFromBy (all_closed old) bytes old new answer
+  pub channels : length new ≡ length old

@@ -1,5 +1,6 @@
 -- What the calls answer that select what a receiver prints (this profile).
-use Rattle.std.specs.Prelude.{◌≡◌, ◌≢◌, ℕ, nat_lt, nat_le, ◌&&◌, Bool, not, if◌then◌else◌, List, Option, Some, None}
+use Rattle.std.specs.Prelude.{◌≡◌, ◌≢◌, ℕ, ◌<◌, nat_lt, nat_le, ◌&&◌, Bool, true, false, not, List}
+use Rattle.std.specs.Prelude.{if◌then◌else◌, length}
 use Rattle.nx_code.specs.Reading.{capital_a, capital_z}
 use Rattle.nx_fec.specs.air_files.Channels.{channel_number}
 use Rattle.nx_fec.specs.declared.air_files.channel.Channel.{Channel}
@@ -8,11 +9,11 @@ use Rattle.nx_copies.specs.Events.{Command}
 use Rattle.nx_receiver.specs.Listener.{then_command}
 use Rattle.nx_receiver.specs.declared.command.Command.{Command as TheCommand}
 use Rattle.nx_receiver.specs.declared.command.Command.TheVariants.{RefuseStation, AcceptStation, RefuseSubject, AcceptSubject}
-use Rattle.nx_handle.specs.Receivers.{HearsGiven, Listening}
 use Rattle.nx_copies.specs.copies.Shares.{Given, MarkedCopy, Starts}
-use Rattle.nx_handle.specs.Life.{hearing}
+use Rattle.nx_handle.specs.Life.{HasHeard}
+use Rattle.nx_handle.specs.Places.{all_hear}
 use Rattle.nx_handle.specs.Status.{number_of}
-use Rattle.nx_handle.specs.declared.kept.Kept.{Kept}
+use Rattle.nx_handle.specs.declared.places.Place.{Place}
 use Rattle.nx_handle.specs.declared.status.Status.{Status}
 use Rattle.nx_handle.specs.declared.status.Status.TheVariants as status
 
@@ -30,34 +31,35 @@ byte_status (RefuseSubject byte) =
     else status.Done
 byte_status (AcceptSubject byte) = if is_letter byte then status.Done else status.NoSubject
 
--- the same on the channel of a number
-abbrev pub command_status : ℕ → TheCommand ℕ → Status
-command_status channel command =
-    if nat_lt 2 channel then status.NoChannel else byte_status command
+-- the same on the channel of a number, of so many
+abbrev pub command_status : ℕ → ℕ → TheCommand ℕ → Status
+command_status channel count command =
+    if not (nat_lt channel count) then status.NoChannel else byte_status command
 
 -- the same, of a receiver that hears, or doesn't
-abbrev pub selecting_status : Status → Option Listening → Status
-selecting_status asked None = status.Closed
-selecting_status asked (Some listener) = asked
+abbrev pub selecting_status : Status → Bool → Status
+selecting_status asked false = status.Closed
+selecting_status asked true = asked
 
--- A command is given to a channel: whatever was given before, the receivers stand after it too.
-pub record TakesCommand (command : Command) (channel : ℕ) (old new : Option Kept) : Type 0 where
+-- A command is given to a channel that the receiver has. It hears, and goes on to hear: whatever
+-- was given before, it stands after the command too.
+pub record TakesCommand (command : Command) (channel : ℕ) (old new : List Place) : Type 0 where
   pub on : Channel
   pub is : channel_number on ≡ channel
-  pub listener : Listening
-  pub was : hearing old ≡ Some listener
-  pub after : Listening
-  pub now : hearing new ≡ Some after
+  pub has_channel : channel < length old
+  pub was : all_hear old ≡ true
+  pub now : all_hear new ≡ true
   pub heard : (starts : Starts) (given : List Given) (copies : List MarkedCopy)
-      → HearsGiven starts listener given copies
-      → HearsGiven starts after (then_command given on command) copies
+      → HasHeard starts old given copies
+      → HasHeard starts new (then_command given on command) copies
 
 -- Selecting: the status has its cause; where all is done, the command is given to the channel; else
--- the receiver stays as it was.
+-- the receiver stays as it was. Its channels stay.
 pub record AnswersSelecting (asked : Status) (command : Command) (channel : ℕ)
-    (old new : Option Kept)
+    (old new : List Place)
     (answer : ℕ)
     : Type 0 where
-  pub cause : answer ≡ number_of (selecting_status asked (hearing old))
+  pub cause : answer ≡ number_of (selecting_status asked (all_hear old))
   pub done : answer ≡ 0 → TakesCommand command channel old new
   pub refused : answer ≢ 0 → new ≡ old
+  pub channels : length new ≡ length old

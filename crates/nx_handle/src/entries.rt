@@ -4,7 +4,7 @@ ghost use Rattle.std.specs.Prelude.{◌≡◌};
 ghost use Rattle.nx_handle.specs.CallerRoom.{room};
 ghost use Rattle.nx_handle.specs.LogEntry.{AnswersEntry, entry_seen, how_number};
 
-use crate::caller_room::{put, put_whole};
+use crate::caller_room::{copy_out, copy_whole_out};
 use crate::status::Status;
 use nx_envelope::How;
 use nx_log::{EntryView, entry_at};
@@ -32,7 +32,7 @@ pub struct LogEntry {
 }
 
 /// Reads the entry of a log with which the bytes begin, whatever stands behind it, as
-/// `nx_log::entry_at` does: tells what it says, and puts its text into the caller's room.
+/// `nx_log::entry_at` does: tells what it says, and copies its text into the caller's room.
 ///
 /// `NoEntry` where they begin with none; `NoRoom` where the text is longer than the room.
 pub fn log_entry(bytes: &[u8], entry: &mut LogEntry, text: &mut [u8], written: &mut usize) -> u32
@@ -40,11 +40,11 @@ pub fn log_entry(bytes: &[u8], entry: &mut LogEntry, text: &mut [u8], written: &
         (room text.old text.new written.new) result }
 {
     let Some(view) = entry_at(bytes) else {
-        put(&[], text, written);
+        copy_out(&[], text, written);
         return Status::NoEntry.number();
     };
     *entry = told_of(&view);
-    put_whole(view.text, text, written)
+    copy_whole_out(view.text, text, written)
 }
 
 /// The entry that is seen, as C has it.

@@ -1,30 +1,29 @@
-//! A receiver that is kept between calls, without its handle: what is kept of it, and what each
-//! call does with that; and the call that reads an entry of its log. Nothing here takes a heap. The
-//! static libraries have the calls for C over this crate, and a handle for what is kept: `nx_live`
-//! in room that its caller lends, `nx_c` in a block that it allocates.
+//! A receiver between two calls, without its handle: the places of its channels, and what each call
+//! does with them; and the call that reads an entry of its log. Nothing here takes a heap. The
+//! static libraries have the calls for C over this crate, and a handle for the places: `nx_live` in
+//! room that its caller lends, `nx_c` in a block that it allocates.
 //!
-//! A call takes the place of what is kept, which has nothing where the receiver is closed. One
-//! whose name ends with `_kept` takes what is kept of an open receiver.
+//! A receiver has one to three channels, and a place for each of them.
 #![tactic(auto)]
 
 mod caller_room;
 mod closing;
 mod entries;
 mod hearing;
-mod kept;
 pub mod laws;
 mod opening;
 mod pieces;
+mod places;
 mod saving;
 mod selecting;
 mod status;
 
-pub use caller_room::{after_putting, put, put_whole};
-pub use closing::{abandon, close, close_kept};
+pub use caller_room::{after_copying_out, copy_out, copy_whole_out};
+pub use closing::{abandon, close};
 pub use entries::{LogEntry, log_entry};
-pub use hearing::{hear, hear_kept};
-pub use kept::Kept;
-pub use opening::{open, set_moment, set_moment_kept};
-pub use saving::{open_from, save, save_kept};
-pub use selecting::{select, select_kept};
+pub use hearing::hear;
+pub use opening::{open, set_moment};
+pub use places::{Place, are_closed};
+pub use saving::{open_from, save};
+pub use selecting::select;
 pub use status::Status;

@@ -3,9 +3,9 @@
 ghost use Rattle.std.specs.Prelude.{◌≡◌, ◌≤◌, length};
 ghost use Rattle.nx_fec.specs.air_files.AirFile.{element_digit};
 ghost use Rattle.nx_handle.specs.CallerRoom.{room};
-ghost use Rattle.nx_handle.specs.Hearing.{HearsAndPuts, HearsOn, element_of, elements_of};
+ghost use Rattle.nx_handle.specs.Hearing.{HearsAndCopiesOut, HearsOn, element_of, elements_of};
 
-use crate::caller_room::{put, put_entry};
+use crate::caller_room::{copy_entry_out, copy_out};
 use nx_fec::{Channel, PackedElements};
 use nx_memory::PlainRecall;
 use nx_receiver::Receiver;
@@ -14,7 +14,8 @@ use nx_receiver::Receiver;
 const MAX_PIECE: usize = 512;
 
 /// Hears elements of a channel with its receiver, up to and with the one that ends the first copy
-/// that is printed, and puts the bytes of its entry into the caller's room; says how many it heard.
+/// that is printed, and copies the bytes of its entry into the caller's room; says how many it
+/// heard.
 pub(crate) fn hear_all(
     receiver: &mut Receiver<PlainRecall>,
     channel: Channel,
@@ -22,7 +23,7 @@ pub(crate) fn hear_all(
     log: &mut [u8],
     written: &mut usize,
 ) -> usize
-    ensures { HearsAndPuts (HearsOn channel receiver.old receiver.new) elements.now result
+    ensures { HearsAndCopiesOut (HearsOn channel receiver.old receiver.new) elements.now result
         (room log.old log.new written.new) }
 {
     let mut heard = 0;
@@ -32,11 +33,11 @@ pub(crate) fn hear_all(
         let (count, head) = receiver.next_printed(&packed, 0);
         heard += count;
         if let Some(head) = head {
-            put_entry(&head, receiver.text(), channel, log, written);
+            copy_entry_out(&head, receiver.text(), channel, log, written);
             return heard;
         }
     }
-    put(&[], log, written);
+    copy_out(&[], log, written);
     heard
 }
 

@@ -1,82 +1,96 @@
 //! Saving a receiver, and opening one from what is saved.
 
-ghost use Rattle.std.specs.Prelude.{◌≡◌, ◌≤◌, [], IfErr, IfOk, List, OnOk, Some};
+ghost use Rattle.std.specs.Prelude.{◌≡◌, ◌<◌, ◌≤◌, ◌↔◌, ◌∷◌, ◌++◌, [], length, IfErr, IfOk, IsTrue, List, None, OnOk, Some};
 ghost use Rattle.nx_envelope.specs.Moment.{last_moment};
+ghost use Rattle.nx_fec.specs.air_files.Channels.{channel_number};
 ghost use Rattle.nx_fec.specs.declared.air_files.channel.Channel.{Channel as TheChannel};
-ghost use Rattle.nx_copies.specs.copies.Shares.{Given, MarkedCopy, Starts, saved_of, share, start_on, starts_from};
+ghost use Rattle.nx_copies.specs.Events.{Event, Start};
+ghost use Rattle.nx_copies.specs.copies.FoundCopies.{TaggedCopy};
+ghost use Rattle.nx_copies.specs.copies.Shares.{saved_of, start_on, starts_from};
 ghost use Rattle.nx_memory.specs.Memory.{newest_moment};
-ghost use Rattle.nx_memory.specs.Saved.{AreSavedStates};
+ghost use Rattle.nx_memory.specs.Saved.{AreSavedStates, nothing_saved};
+ghost use Rattle.nx_memory.specs.Selection.{IsRefusable};
+ghost use Rattle.nx_memory.specs.StateText.{IsStateText};
 ghost use Rattle.nx_receiver.specs.Receiver.{Stands};
 ghost use Rattle.nx_receiver.specs.air_file_runs.Chain.{Leaves};
 ghost use Rattle.nx_receiver.specs.air_file_runs.State.{BeginsWith, state_bytes};
 ghost use Rattle.nx_handle.specs.Life.{HasHeard};
-ghost use Rattle.nx_handle.specs.Saving.{AnswersOpeningFrom, AnswersSaving, IsFirstLine, RefusesText, StandsNext, start_with};
-ghost use Rattle.nx_handle.specs.CallerRoom.{IsPut, room};
-ghost use Rattle.nx_handle.specs.Receivers.{HearsGiven, OneReceiver, content, three};
+ghost use Rattle.nx_handle.specs.Places.{place_on};
+ghost use Rattle.nx_handle.specs.Saving.{AnswersOpeningFrom, AnswersSaving, HasNoMore, HasNothing, IsFirstLine, RefusesEnd, RefusesLetter, RefusesNone, RefusesState, RefusesText, StandsNext, start_with};
+ghost use Rattle.nx_handle.specs.CallerRoom.{IsCopiedOut, room};
+ghost use Rattle.nx_handle.specs.Receivers.{OneReceiver, content};
+ghost use Rattle.nx_handle.specs.declared.places.Place.TheVariants.{Hears};
 
-use crate::caller_room::{after_putting, put, put_more};
-use crate::kept::Kept;
-use crate::opening::{begin_empty, begin_on};
+use crate::caller_room::{after_copying_out, copy_more_out, copy_out};
+use crate::opening::begin_at;
+use crate::places::{Place, all_hear, are_closed, channel_at, close_all};
 use crate::status::Status;
+use nx_envelope::Letter;
 use nx_fec::Channel;
 use nx_memory::{MAX_STATE_LINE, PlainRecall, Saved, SavedSet, Selection, StateReader, state_line};
-use nx_receiver::Receiver;
 
-/// Puts the text of a state into the caller's room, with which `open_from` goes on: of each
-/// channel the last 200 entries, and what is selected now. Copies that stand open are no part of
-/// it. It has at most 11,001 bytes.
+/// Copies the text of a state into the caller's room, with which `open_from` goes on: of each
+/// channel the last 200 entries, and what is selected now; of a channel that the receiver doesn't
+/// have, nothing. Copies that stand open are no part of it. It has at most 11,001 bytes.
 ///
-/// `Closed` where the receiver is closed, or its end has begun; then nothing is put. Else `NoRoom`
-/// where there is no room for all of the text, whose first bytes stand in the room then; else
-/// `Done`. `written` is the length of the whole text. The receiver stays as it was.
-pub fn save(slot: &Option<Kept>, state: &mut [u8], written: &mut usize) -> u32
-    ensures { AnswersSaving slot.now slot.now (room state.old state.new written.new) result }
+/// `Closed` where the receiver is closed, or its end has begun; then nothing is copied. Else
+/// `NoRoom` where there is no room for all of the text, whose first bytes stand in the room then;
+/// else `Done`. `written` is the length of the whole text. The receiver stays as it was.
+pub fn save(places: &[Place], state: &mut [u8], written: &mut usize) -> u32
+    ensures { AnswersSaving places.now places.now (room state.old state.new written.new) result }
 {
-    let Some(kept) = slot else {
-        put(&[], state, written);
+    if !all_hear(places) {
+        copy_out(&[], state, written);
         return Status::Closed.number();
-    };
-    save_kept(kept, state, written)
+    }
+    copy_state_out(&left_by(places), state, written);
+    after_copying_out(*written, state.len(), Status::Done).number()
 }
 
-/// Saves what is kept of an open receiver, as `save` does.
-pub fn save_kept(kept: &Kept, state: &mut [u8], written: &mut usize) -> u32
-    ensures { AnswersSaving (Some kept.now) (Some kept.now)
-        (room state.old state.new written.new) result }
-{
-    let (Some(on_0), Some(on_1), Some(on_2)) = (&kept.on_0, &kept.on_1, &kept.on_2) else {
-        put(&[], state, written);
-        return Status::Closed.number();
-    };
-    put_state(&left_by(on_0, on_1, on_2), state, written);
-    after_putting(*written, state.len(), Status::Done).number()
-}
-
-/// What the receivers of the three channels leave.
+/// What the channels leave.
 // Built in the place of its caller.
 #[inline(always)]
-fn left_by(
-    on_0: &Receiver<PlainRecall>,
-    on_1: &Receiver<PlainRecall>,
-    on_2: &Receiver<PlainRecall>,
-) -> SavedSet
-    ensures { (starts : Starts) (given : List Given) (copies : List MarkedCopy)
-        → HearsGiven starts (three on_0.now on_1.now on_2.now) given copies → (channel : TheChannel)
-        → Leaves (start_on starts channel) (share channel given) (saved_of result channel) }
+fn left_by(places: &[Place]) -> SavedSet
+    ensures leaves { (channel : TheChannel) (receiver : OneReceiver)
+        → place_on places.now channel ≡ Some (Hears receiver)
+        → (start : Start) (history : List Event) (log : List TaggedCopy)
+        → Stands content start receiver history log → Leaves start history (saved_of result channel) }
+    ensures others { (channel : TheChannel) → place_on places.now channel ≡ None
+        → saved_of result channel ≡ nothing_saved }
 {
-    SavedSet::of(on_0.saved(), on_1.saved(), on_2.saved())
+    SavedSet::of(
+        left_on(places, Channel::Zero),
+        left_on(places, Channel::One),
+        left_on(places, Channel::Two),
+    )
 }
 
-/// Puts the text of a state into the caller's room, line by line.
-fn put_state(states: &SavedSet, space: &mut [u8], written: &mut usize)
-    ensures put { IsPut (state_bytes states.now) (room space.old space.new written.new) }
+/// What a channel leaves; nothing where the receiver doesn't have it.
+// Built in the place of its caller too.
+#[inline(always)]
+fn left_on(places: &[Place], channel: Channel) -> Saved
+    ensures leaves { (receiver : OneReceiver)
+        → place_on places.now channel ≡ Some (Hears receiver)
+        → (start : Start) (history : List Event) (log : List TaggedCopy)
+        → Stands content start receiver history log → Leaves start history result }
+    ensures others { place_on places.now channel ≡ None → result ≡ nothing_saved }
+{
+    match places.get(usize::from(channel.number())) {
+        Some(Place::Hears(receiver)) => receiver.saved(),
+        _ => Saved::new(),
+    }
+}
+
+/// Copies the text of a state into the caller's room, line by line.
+fn copy_state_out(states: &SavedSet, space: &mut [u8], written: &mut usize)
+    ensures copied { IsCopiedOut (state_bytes states.now) (room space.old space.new written.new) }
     ensures sound { AreSavedStates states.now }
 {
-    put(&[], space, written);
+    copy_out(&[], space, written);
     let mut place = 0;
     while let Some(line) = state_line(states, place) {
-        put_more(&line, space, written);
-        put_more(b"\n", space, written);
+        copy_more_out(&line, space, written);
+        copy_more_out(b"\n", space, written);
         place += 1;
     }
 }
@@ -86,59 +100,62 @@ fn put_state(states: &SavedSet, space: &mut [u8], written: &mut usize)
 /// state isn't read.
 ///
 /// `AlreadyOpen` where it is open; else `StateLine` where a line can't stand where it stands; else
-/// `StateCut` where the bytes end before the state; else `Done`. Where it isn't `Done`, the
-/// receiver stays as it was.
-pub fn open_from(slot: &mut Option<Kept>, state: &[u8]) -> u32
-    ensures { AnswersOpeningFrom state.now slot.old slot.new result }
+/// `StateCut` where the bytes end before the state; else `NoChannel` where the state has anything
+/// of a channel that the receiver doesn't have; else `Done`. Where it isn't `Done`, the receiver
+/// stays as it was.
+pub fn open_from(places: &mut [Place], state: &[u8]) -> u32
+    requires some { 0 < length places.old }
+    requires few { length places.old ≤ 3 }
+    ensures { AnswersOpeningFrom state.now places.old places.new result }
 {
-    if slot.is_some() {
+    if !are_closed(places) {
         return Status::AlreadyOpen.number();
     }
-    begin_empty(slot);
-    let Some(kept) = slot else { unreachable!() };
-    match begin_all(kept, state) {
+    match begin_all(places, state) {
         Ok(()) => 0,
         Err(status) => {
-            *slot = None;
+            close_all(places);
             status.number()
         }
     }
 }
 
 /// Gives each channel a receiver that starts with the state with which these bytes begin, and has
-/// heard nothing. Or the status that says why they begin with no state.
-fn begin_all(kept: &mut Kept, state: &[u8]) -> Result<(), Status>
+/// heard nothing. Or the status that says why they begin with no state of these channels.
+fn begin_all(places: &mut [Place], state: &[u8]) -> Result<(), Status>
+    requires some { 0 < length places.old }
+    requires few { length places.old ≤ 3 }
     ensures ok { OnOk result (BeginsWith state.now (λ states more.
-        HasHeard (starts_from states) (Some kept.new) [] [])) }
-    ensures err { IfErr result (RefusesText state.now) }
+        HasNoMore (length places.old) states × HasHeard (starts_from states) places.new [] [])) }
+    ensures err { IfErr result (RefusesState (length places.old) state.now) }
+    ensures channels { length places.new ≡ length places.old }
 {
-    begin_from(&mut kept.on_0, state, Channel::Zero)?;
-    begin_from(&mut kept.on_1, state, Channel::One)?;
-    begin_from(&mut kept.on_2, state, Channel::Two)?;
+    let count = places.len();
+    for at in 0..count {
+        begin_from(&mut places[at], state, channel_at(at), count)?;
+    }
     Ok(())
 }
 
-/// Gives a channel a receiver that starts with what is saved of the channel in the state with which
-/// these bytes begin, and has heard nothing. Or the status that says why they begin with no state.
+/// Gives a channel, of so many, a receiver that starts with what is saved of the channel in the
+/// state with which these bytes begin, and has heard nothing. Or the status that says why they
+/// begin with no state of these channels.
 // The state is read once for each channel, so that what is saved of the others takes no stack.
 #[inline(never)]
-fn begin_from(
-    place: &mut Option<Receiver<PlainRecall>>,
-    state: &[u8],
-    channel: Channel,
-) -> Result<(), Status>
-    ensures ok { OnOk result (BeginsWith state.now (λ states more. (receiver : OneReceiver)
-        × (place.new ≡ Some receiver)
-        × Stands content (start_on (starts_from states) channel) receiver [] [])) }
-    ensures err { IfErr result (RefusesText state.now) }
+fn begin_from(place: &mut Place, state: &[u8], channel: Channel, count: usize) -> Result<(), Status>
+    requires { 0 < count }
+    ensures ok { OnOk result (BeginsWith state.now (λ states more. HasNoMore count states
+        × ((receiver : OneReceiver) × (place.new ≡ Hears receiver)
+        × Stands content (start_on (starts_from states) channel) receiver [] []))) }
+    ensures err { IfErr result (RefusesState count state.now) }
 {
     let mut memory = no_entries();
     let mut selection = Selection::all();
-    let moment = match load_from(state, channel, &mut memory, &mut selection) {
+    let moment = match load_from(state, channel, count, &mut memory, &mut selection) {
         Ok(moment) => moment,
         Err(status) => return Err(status),
     };
-    begin_on(place, &mut memory, moment, selection);
+    begin_at(place, &mut memory, moment, selection);
     Ok(())
 }
 
@@ -153,47 +170,54 @@ fn no_entries() -> PlainRecall
 
 /// Enters what is saved of a channel into a memory that has no entry, and gives its selection:
 /// answers the greatest moment of an entry of any channel, 0 where there is none. Or the status
-/// that says why these bytes begin with no state.
+/// that says why these bytes begin with no state of so many channels.
 // A call, so that its stack is free again before the receiver is made. The work stands in a
 // function that becomes part of it: what is so optimised twice takes 20 kB of stack, and else 49.
 #[inline(never)]
 fn load_from(
     state: &[u8],
     channel: Channel,
+    count: usize,
     memory: &mut PlainRecall,
     selection: &mut Selection,
 ) -> Result<u64, Status>
-    requires { memory.old ≡ [] }
+    requires some { 0 < count }
+    requires empty { memory.old ≡ [] }
     ensures ok { IfOk result (λ moment. BeginsWith state.now (λ states more.
-        start_on (starts_from states) channel ≡ start_with memory.new moment selection.new)) }
+        HasNoMore count states
+        × (start_on (starts_from states) channel ≡ start_with memory.new moment selection.new))) }
     ensures newest { IfOk result (λ moment. newest_moment memory.new ≤ moment) }
     ensures range { IfOk result (λ moment. moment ≤ last_moment) }
-    ensures err { IfErr result (RefusesText state.now) }
+    ensures err { IfErr result (RefusesState count state.now) }
 {
-    load_saved(state, channel, memory, selection)
+    load_saved(state, channel, count, memory, selection)
 }
 
 /// Does what `load_from` does.
 fn load_saved(
     state: &[u8],
     channel: Channel,
+    count: usize,
     memory: &mut PlainRecall,
     selection: &mut Selection,
 ) -> Result<u64, Status>
-    requires { memory.old ≡ [] }
+    requires some { 0 < count }
+    requires empty { memory.old ≡ [] }
     ensures ok { IfOk result (λ moment. BeginsWith state.now (λ states more.
-        start_on (starts_from states) channel ≡ start_with memory.new moment selection.new)) }
+        HasNoMore count states
+        × (start_on (starts_from states) channel ≡ start_with memory.new moment selection.new))) }
     ensures newest { IfOk result (λ moment. newest_moment memory.new ≤ moment) }
     ensures range { IfOk result (λ moment. moment ≤ last_moment) }
-    ensures err { IfErr result (RefusesText state.now) }
+    ensures err { IfErr result (RefusesState count state.now) }
 {
     let mut text = StateReader::new();
     let last = match read_lines(state, &mut text) {
         Ok(last) => last,
         Err(status) => return Err(status),
     };
-    let Some(states) = text.ended(last) else {
-        return Err(Status::StateLine);
+    let states = match ended_within(&text, last, count) {
+        Ok(states) => states,
+        Err(status) => return Err(status),
     };
     let saved = saved_on(states, channel);
     saved.load(memory);
@@ -203,12 +227,81 @@ fn load_saved(
 
 /// What is saved of a channel.
 fn saved_on(states: &SavedSet, channel: Channel) -> &Saved
-    ensures kept { result.now ≡ saved_of states.now channel }
+    ensures { result.now ≡ saved_of states.now channel }
 {
     let Some(saved) = states.get(channel.number()) else {
         unreachable!()
     };
     saved
+}
+
+/// What the text stands for that these lines and this last one are, where it has nothing of
+/// channels behind the first so many. Or the status that says why not.
+// A call, so that `load_saved` stays small enough to become part of `load_from`.
+#[inline(never)]
+fn ended_within<'a>(
+    text: &'a StateReader,
+    last: &[u8],
+    count: usize,
+) -> Result<&'a SavedSet, Status>
+    requires { 0 < count }
+    ensures ok { IfOk result (λ states. IsStateText (text.now ++ last.now ∷ []) states.now
+        × HasNoMore count states.now) }
+    ensures err { IfErr result (RefusesEnd count text.now last.now) }
+{
+    let Some(states) = text.ended(last) else {
+        return Err(Status::StateLine);
+    };
+    if !has_no_more(states, count) {
+        return Err(Status::NoChannel);
+    }
+    Ok(states)
+}
+
+/// Whether a state has nothing of channels behind the first so many.
+fn has_no_more(states: &SavedSet, count: usize) -> bool
+    requires { 0 < count }
+    ensures { IsTrue result ↔ HasNoMore count states.now }
+{
+    is_within(states, Channel::One, count) && is_within(states, Channel::Two, count)
+}
+
+/// Whether a channel is one of the first so many, or a state has nothing of it.
+fn is_within(states: &SavedSet, channel: Channel, count: usize) -> bool
+    ensures { IsTrue result
+        ↔ (count ≤ channel_number channel → HasNothing (saved_of states.now channel)) }
+{
+    usize::from(channel.number()) < count || has_nothing(saved_on(states, channel))
+}
+
+/// Whether nothing is saved of a channel: there is no entry, and no letter is refused.
+fn has_nothing(saved: &Saved) -> bool
+    ensures { IsTrue result ↔ HasNothing saved.now }
+{
+    saved.count() == 0 && refuses_none(&saved.selection())
+}
+
+/// Whether a selection refuses no station and no subject.
+fn refuses_none(selection: &Selection) -> bool
+    ensures { IsTrue result ↔ RefusesNone selection.now }
+{
+    for byte in b'A'..b'Z' + 1 {
+        let Some(letter) = Letter::new(byte) else {
+            unreachable!()
+        };
+        if refuses_letter(selection, letter) {
+            return false;
+        }
+    }
+    true
+}
+
+/// Whether a selection refuses the station or the subject of a letter.
+fn refuses_letter(selection: &Selection, letter: Letter) -> bool
+    ensures refused { IsTrue result ↔ RefusesLetter selection.now letter.byte }
+    ensures refusable { IsRefusable selection.now }
+{
+    selection.refuses_station(letter) || selection.refuses_subject(letter)
 }
 
 /// Reads the lines of the text of a state with which these bytes begin, up to one that the reader,

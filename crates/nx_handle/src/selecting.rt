@@ -1,86 +1,61 @@
 //! Selecting what a receiver prints.
 
-ghost use Rattle.std.specs.Prelude.{◌≡◌, ◌≢◌, ◌↔◌, IfErr, IfOk, IsErr, IsTrue, List, OnErr, OnOk, Some, false, true, if◌then◌else◌};
-ghost use Rattle.nx_copies.specs.copies.Shares.{Given, MarkedCopy, Starts};
+ghost use Rattle.std.specs.Prelude.{◌≡◌, ◌≢◌, ◌↔◌, ◌≤◌, length, IfErr, IfOk, IsErr, IsTrue, OnErr, OnOk, true, false, if◌then◌else◌};
+ghost use Rattle.nx_copies.specs.Events as events;
 ghost use Rattle.nx_receiver.specs.Commands.{by_byte, refuses_vital, said};
-ghost use Rattle.nx_receiver.specs.Listener.{then_command};
-ghost use Rattle.nx_handle.specs.Receivers.{HearsGiven, three};
+ghost use Rattle.nx_receiver.specs.Receiver.{TakesEvent};
+ghost use Rattle.nx_handle.specs.Places.{is_hearing};
+ghost use Rattle.nx_handle.specs.Receivers.{OneReceiver, content};
 ghost use Rattle.nx_handle.specs.Selecting.{AnswersSelecting, byte_status, command_status, is_letter};
+ghost use Rattle.nx_handle.specs.declared.places.Place.TheVariants.{Hears};
 ghost use Rattle.nx_handle.specs.declared.status.Status.TheVariants.{Done, NoStation, NoSubject, Vital};
 
-use crate::kept::Kept;
+use crate::places::{Place, all_hear, channel_of};
 use crate::status::Status;
 use nx_envelope::Letter;
-use nx_fec::Channel;
-use nx_memory::{PlainRecall, Vital as VitalSubject};
-use nx_receiver::{Command, Receiver};
+use nx_receiver::Command;
 
 /// Gives a command for the letter of a byte, 'A' to 'Z', to a channel, from here on.
 ///
-/// `Closed` where the receiver is closed, or its end has begun; else `NoChannel` where there is no
+/// `Closed` where the receiver is closed, or its end has begun; else `NoChannel` where it has no
 /// channel of this number; else `NoStation` or `NoSubject` where the byte is no letter; else
 /// `Vital` where it is to refuse subject A, B, D or L, which can't be refused (ITU-R M.540); else
 /// `Done`. Where it isn't `Done`, the receiver stays as it was.
-pub fn select(slot: &mut Option<Kept>, channel: u8, command: Command<u8>) -> u32
-    ensures { AnswersSelecting (command_status channel command) (by_byte command)
-        channel slot.old slot.new result }
+pub fn select(places: &mut [Place], channel: u8, command: Command<u8>) -> u32
+    requires few { length places.old ≤ 3 }
+    ensures { AnswersSelecting (command_status channel (length places.old) command)
+        (by_byte command) channel places.old places.new result }
 {
-    let Some(kept) = slot else {
+    if !all_hear(places) {
         return Status::Closed.number();
-    };
-    select_kept(kept, channel, command)
-}
-
-/// Does with what is kept of an open receiver what `select` does.
-pub fn select_kept(kept: &mut Kept, channel: u8, command: Command<u8>) -> u32
-    ensures { AnswersSelecting (command_status channel command) (by_byte command)
-        channel (Some kept.old) (Some kept.new) result }
-{
-    let Some(on_0) = &mut kept.on_0 else {
-        return Status::Closed.number();
-    };
-    let Some(on_1) = &mut kept.on_1 else {
-        return Status::Closed.number();
-    };
-    let Some(on_2) = &mut kept.on_2 else {
-        return Status::Closed.number();
-    };
-    let Some(channel) = Channel::new(channel) else {
+    }
+    let Some(channel) = channel_of(channel, places.len()) else {
         return Status::NoChannel.number();
     };
     let command = match for_letter(command) {
         Ok(command) => command,
         Err(status) => return status.number(),
     };
-    match command_on(on_0, on_1, on_2, channel, command) {
+    match command_at(&mut places[usize::from(channel.number())], command) {
         Ok(()) => 0,
         Err(_) => Status::Vital.number(),
     }
 }
 
-/// Gives a command to the receiver of a channel, of the three. Fails where it is to refuse subject
-/// A, B, D or L; then they stay as they were.
-fn command_on(
-    on_0: &mut Receiver<PlainRecall>,
-    on_1: &mut Receiver<PlainRecall>,
-    on_2: &mut Receiver<PlainRecall>,
-    channel: Channel,
-    command: Command,
-) -> Result<(), VitalSubject>
-    ensures heard { OnOk result ((starts : Starts) (given : List Given) (copies : List MarkedCopy)
-        → HearsGiven starts (three on_0.old on_1.old on_2.old) given copies
-        → HearsGiven starts (three on_0.new on_1.new on_2.new)
-        (then_command given channel (said command)) copies) }
+/// Gives a command to a channel in its place. Fails where it is to refuse subject A, B, D or L;
+/// then the channel stays as it was.
+fn command_at(place: &mut Place, command: Command) -> Result<(), nx_memory::Vital>
+    requires { is_hearing place.old ≡ true }
+    ensures taken { OnOk result ((receiver : OneReceiver) × (after : OneReceiver)
+        × (place.old ≡ Hears receiver) × (place.new ≡ Hears after)
+        × TakesEvent content receiver after (events.command (said command))) }
     ensures vital { IsErr result ↔ IsTrue (refuses_vital (said command)) }
-    ensures unchanged_0 { OnErr result (on_0.new ≡ on_0.old) }
-    ensures unchanged_1 { OnErr result (on_1.new ≡ on_1.old) }
-    ensures unchanged_2 { OnErr result (on_2.new ≡ on_2.old) }
+    ensures unchanged { OnErr result (place.new ≡ place.old) }
 {
-    match channel {
-        Channel::Zero => on_0.command(command),
-        Channel::One => on_1.command(command),
-        Channel::Two => on_2.command(command),
-    }
+    let Place::Hears(receiver) = place else {
+        unreachable!()
+    };
+    receiver.command(command)
 }
 
 /// The command for the letter of its byte, or the status of one that is no letter's.

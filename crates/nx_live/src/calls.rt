@@ -1,21 +1,21 @@
 //! The calls of a receiver. Each does what the call of `nx_handle` does that has its name; those
 //! that refuse or accept do what `select` does.
 
-ghost use Rattle.std.specs.Prelude.{◌≡◌, None};
+ghost use Rattle.std.specs.Prelude.{◌≡◌, length, true};
 ghost use Rattle.nx_copies.specs.Events as events;
 ghost use Rattle.nx_receiver.specs.declared.command.Command.TheVariants.{RefuseStation, AcceptStation, RefuseSubject, AcceptSubject};
 ghost use Rattle.nx_handle.specs.CallerRoom.{room};
 ghost use Rattle.nx_handle.specs.Closing.{AnswersClosing};
 ghost use Rattle.nx_handle.specs.Hearing.{AnswersHearing};
-ghost use Rattle.nx_handle.specs.Life.{hearing};
 ghost use Rattle.nx_handle.specs.LogEntry.{AnswersEntry};
 ghost use Rattle.nx_handle.specs.Opening.{AnswersMoment, AnswersOpening};
+ghost use Rattle.nx_handle.specs.Places.{all_closed, all_hear};
 ghost use Rattle.nx_handle.specs.Saving.{AnswersOpeningFrom, AnswersSaving};
 ghost use Rattle.nx_handle.specs.Selecting.{AnswersSelecting, command_status};
 
 use crate::handle::NxLive;
 use crate::lending::{ROOM, ROOM_ALIGNMENT};
-use nx_handle::{Kept, LogEntry};
+use nx_handle::{LogEntry, Place};
 use nx_receiver::Command;
 
 /// Opens a receiver at a moment, in whole seconds since 1970-01-01 00:00:00 UTC: it has heard
@@ -26,21 +26,21 @@ use nx_receiver::Command;
 pub extern "C" fn nx_live_open(receiver: &mut NxLive, moment: u64) -> u32
     ensures { AnswersOpening moment receiver.old.value receiver.new.value result }
 {
-    prove!(size_of::<Option<Kept>>() == ROOM);
-    prove!(align_of::<Option<Kept>>() == ROOM_ALIGNMENT);
-    nx_handle::open(receiver.slot(), moment)
+    prove!(size_of::<Place>() == ROOM);
+    prove!(align_of::<Place>() == ROOM_ALIGNMENT);
+    nx_handle::open(receiver.places(), moment)
 }
 
 /// Opens a receiver from the state with which these bytes begin: it remembers the state's entries,
 /// has its selection on each channel, and the greatest moment of an entry. What stands behind the
-/// state isn't read.
+/// state isn't read. `NoChannel` where the state has anything of a channel that it doesn't have.
 ///
 /// Where the answer isn't 0, the receiver stays as it was.
 #[unsafe(no_mangle)]
 pub extern "C" fn nx_live_open_from(receiver: &mut NxLive, state: &[u8]) -> u32
     ensures { AnswersOpeningFrom state.now receiver.old.value receiver.new.value result }
 {
-    nx_handle::open_from(receiver.slot(), state)
+    nx_handle::open_from(receiver.places(), state)
 }
 
 /// Sets the moment from here on, of all channels. Refused where it is past the year 2999, or before
@@ -48,15 +48,15 @@ pub extern "C" fn nx_live_open_from(receiver: &mut NxLive, state: &[u8]) -> u32
 #[unsafe(no_mangle)]
 pub extern "C" fn nx_live_set_moment(receiver: &mut NxLive, moment: u64) -> u32
     ensures { AnswersMoment moment receiver.old.value receiver.new.value result
-        (hearing receiver.old.value) }
+        (all_hear receiver.old.value) }
 {
-    nx_handle::set_moment(receiver.slot(), moment)
+    nx_handle::set_moment(receiver.places(), moment)
 }
 
-/// Hears elements of a channel, 0 to 2, each a byte, 1 for B and 0 for Y: up to and with the one
-/// that ends the first copy that is printed. `heard` is how many it heard; the bytes of the entry
-/// are put into the caller's room, and `written` is their number, 0 where nothing is printed: then
-/// it heard all.
+/// Hears elements of a channel, by its number, each a byte, 1 for B and 0 for Y: up to and with the
+/// one that ends the first copy that is printed. `heard` is how many it heard; the bytes of the
+/// entry are copied into the caller's room, and `written` is their number, 0 where nothing is
+/// printed: then it heard all.
 ///
 /// There has to be room for the largest entry, so that none is lost. Where the answer isn't 0,
 /// nothing is heard.
@@ -72,49 +72,53 @@ pub extern "C" fn nx_live_hear(
     ensures { AnswersHearing channel elements.now receiver.old.value receiver.new.value heard.new
         (room log.old log.new written.new) result }
 {
-    nx_handle::hear(receiver.slot(), channel, elements, heard, log, written)
+    nx_handle::hear(receiver.places(), channel, elements, heard, log, written)
 }
 
 /// Refuses a station, 'A' to 'Z', on a channel, for all its subjects, from here on.
 #[unsafe(no_mangle)]
 pub extern "C" fn nx_live_refuse_station(receiver: &mut NxLive, channel: u8, station: u8) -> u32
-    ensures { AnswersSelecting (command_status channel (RefuseStation station))
+    ensures { AnswersSelecting (command_status channel (length receiver.old.value)
+        (RefuseStation station))
         (events.refuse_station station) channel receiver.old.value receiver.new.value result }
 {
-    nx_handle::select(receiver.slot(), channel, Command::RefuseStation(station))
+    nx_handle::select(receiver.places(), channel, Command::RefuseStation(station))
 }
 
 /// Refuses a station on a channel no longer, from here on.
 #[unsafe(no_mangle)]
 pub extern "C" fn nx_live_accept_station(receiver: &mut NxLive, channel: u8, station: u8) -> u32
-    ensures { AnswersSelecting (command_status channel (AcceptStation station))
+    ensures { AnswersSelecting (command_status channel (length receiver.old.value)
+        (AcceptStation station))
         (events.accept_station station) channel receiver.old.value receiver.new.value result }
 {
-    nx_handle::select(receiver.slot(), channel, Command::AcceptStation(station))
+    nx_handle::select(receiver.places(), channel, Command::AcceptStation(station))
 }
 
 /// Refuses a subject on a channel, of all stations, from here on. A, B, D and L can't be refused
 /// (ITU-R M.540).
 #[unsafe(no_mangle)]
 pub extern "C" fn nx_live_refuse_subject(receiver: &mut NxLive, channel: u8, subject: u8) -> u32
-    ensures { AnswersSelecting (command_status channel (RefuseSubject subject))
+    ensures { AnswersSelecting (command_status channel (length receiver.old.value)
+        (RefuseSubject subject))
         (events.refuse_subject subject) channel receiver.old.value receiver.new.value result }
 {
-    nx_handle::select(receiver.slot(), channel, Command::RefuseSubject(subject))
+    nx_handle::select(receiver.places(), channel, Command::RefuseSubject(subject))
 }
 
 /// Refuses a subject on a channel no longer, from here on.
 #[unsafe(no_mangle)]
 pub extern "C" fn nx_live_accept_subject(receiver: &mut NxLive, channel: u8, subject: u8) -> u32
-    ensures { AnswersSelecting (command_status channel (AcceptSubject subject))
+    ensures { AnswersSelecting (command_status channel (length receiver.old.value)
+        (AcceptSubject subject))
         (events.accept_subject subject) channel receiver.old.value receiver.new.value result }
 {
-    nx_handle::select(receiver.slot(), channel, Command::AcceptSubject(subject))
+    nx_handle::select(receiver.places(), channel, Command::AcceptSubject(subject))
 }
 
-/// Puts the text of a state into the caller's room, with which `nx_live_open_from` goes on: of each
-/// channel the last 200 entries, and what is selected now. Copies that stand open are no part of
-/// it.
+/// Copies the text of a state into the caller's room, with which `nx_live_open_from` goes on: of
+/// each channel the last 200 entries, and what is selected now; of a channel that the receiver
+/// doesn't have, nothing. Copies that stand open are no part of it.
 ///
 /// `written` is the length of the whole text; where there is no room for all of it, its first bytes
 /// stand in the room. The receiver stays as it was.
@@ -123,12 +127,12 @@ pub extern "C" fn nx_live_save(receiver: &mut NxLive, state: &mut [u8], written:
     ensures { AnswersSaving receiver.old.value receiver.new.value
         (room state.old state.new written.new) result }
 {
-    nx_handle::save(receiver.slot(), state, written)
+    nx_handle::save(receiver.places(), state, written)
 }
 
 /// Ends the elements of all channels, and hands out what their end prints, by channel: one entry a
-/// call, whose bytes are put into the caller's room. `written` is their number, and 0 where none is
-/// left: the receiver is closed then, and its room serves again. From the first call on it hears
+/// call, whose bytes are copied into the caller's room. `written` is their number, and 0 where none
+/// is left: the receiver is closed then, and its room serves again. From the first call on it hears
 /// nothing more.
 ///
 /// There has to be room for the largest entry, so that none is lost. Where the answer isn't 0, the
@@ -138,19 +142,20 @@ pub extern "C" fn nx_live_close(receiver: &mut NxLive, log: &mut [u8], written: 
     ensures { AnswersClosing receiver.old.value receiver.new.value
         (room log.old log.new written.new) result }
 {
-    nx_handle::close(receiver.slot(), log, written)
+    nx_handle::close(receiver.places(), log, written)
 }
 
 /// Closes a receiver, and prints nothing. Its room serves again.
 #[unsafe(no_mangle)]
 pub extern "C" fn nx_live_abandon(receiver: &mut NxLive)
-    ensures { receiver.new.value ≡ None }
+    ensures closed { all_closed receiver.new.value ≡ true }
+    ensures channels { length receiver.new.value ≡ length receiver.old.value }
 {
-    nx_handle::abandon(receiver.slot());
+    nx_handle::abandon(receiver.places());
 }
 
 /// Reads the entry of a log with which the bytes begin, whatever stands behind it: tells what it
-/// says, and puts its text into the caller's room. `NoEntry` where they begin with none; `NoRoom`
+/// says, and copies its text into the caller's room. `NoEntry` where they begin with none; `NoRoom`
 /// where the text is longer than the room.
 ///
 /// The receiver, open or closed, stays as it is: only where the library is made into C by another

@@ -1,5 +1,5 @@
-//! The calls of a receiver that is kept between calls, for C and what calls C, without a heap, and
-//! the call that reads an entry of its log. What is kept lies in room that the caller lends.
+//! The calls of a receiver, for C and what calls C, without a heap, and the call that reads an
+//! entry of its log. The places of its channels, one to three, lie in room that the caller lends.
 #![tactic(auto)]
 
 mod calls;

@@ -12,14 +12,19 @@
 #error "a processor with the greatest byte first was never tried"
 #endif
 
+/* So many channels a receiver has at most; its room follows. */
+#ifndef NX_LIVE_CHANNELS
+#define NX_LIVE_CHANNELS 3
+#endif
+
 #define PIECE 512u        /* so many elements go into the module at once */
 #define MOST_STATE 11008u /* no text of a state is longer; a multiple of 8 */
 #define MOST_TEXT 4100u   /* no text of an entry is longer */
 
 /* What the calls of the module write to, behind its own memory. */
 struct lent {
-    uint64_t handle, heard, written;
-    uint8_t room[NX_LIVE_KEPT];
+    uint64_t handle[2], heard, written;
+    uint8_t room[NX_LIVE_CHANNELS * NX_LIVE_CHANNEL];
     uint8_t elements[PIECE];
     uint8_t log[MOST_STATE];
 };
@@ -37,7 +42,7 @@ struct seen {
 /* What lies in the room of a receiver. */
 struct place {
     Z_navtex_live_instance_t module;
-    uint8_t memory[NX_LIVE_ROOM - sizeof(Z_navtex_live_instance_t)];
+    uint8_t memory[NX_LIVE_ROOM(NX_LIVE_CHANNELS) - sizeof(Z_navtex_live_instance_t)];
 };
 
 /* Where the module's own memory ends, with its stack and its constants; and where a part of what is
@@ -46,7 +51,7 @@ struct place {
 #define AT(part) (OWN + offsetof(struct lent, part))
 #define HERE(place, address) ((place)->memory + NX_LIVE_LENT(address))
 
-_Static_assert(sizeof(struct place) <= NX_LIVE_ROOM, "the room holds an instance");
+_Static_assert(sizeof(struct place) <= NX_LIVE_ROOM(NX_LIVE_CHANNELS), "the room holds an instance");
 _Static_assert(NX_LIVE_MAX_STATE <= MOST_STATE, "a state has place");
 _Static_assert(NX_LIVE_MAX_ENTRY <= MOST_STATE, "an entry has place where a state has");
 _Static_assert(sizeof(struct seen) + MOST_TEXT + NX_LIVE_MAX_ENTRY <= MOST_STATE, "and so has one that is read");
@@ -82,13 +87,30 @@ uint32_t wasm_rt_grow_memory(wasm_rt_memory_t *memory, uint32_t pages) {
 
 void wasm_rt_free_memory(wasm_rt_memory_t *memory) { (void)memory; }
 
-void nx_live_lend(struct nx_live *receiver, void *room) {
+/* Makes the instance in its room, for so many channels: that of fewer than NX_LIVE_CHANNELS has the
+ * room of so many. */
+static struct place *made(struct nx_live *receiver, void *room, size_t channels) {
+    if (channels > NX_LIVE_CHANNELS)
+        wasm_rt_trap(WASM_RT_TRAP_OOB); /* the room is that of fewer */
     receiver->room = room;
+    receiver->channels = channels;
     Z_navtex_live_init_module();
     Z_navtex_live_instantiate(&place_of(receiver)->module);
     if (*Z_navtex_liveZ___heap_base(&place_of(receiver)->module) > OWN)
         wasm_rt_trap(WASM_RT_TRAP_OOB); /* NX_LIVE_ROOM is that of another module */
-    Z_navtex_liveZ_nx_live_lend(&place_of(receiver)->module, AT(handle), AT(room));
+    return place_of(receiver);
+}
+
+void nx_live_lend_1(struct nx_live *receiver, void *room) {
+    Z_navtex_liveZ_nx_live_lend_1(&made(receiver, room, 1)->module, AT(handle), AT(room));
+}
+
+void nx_live_lend_2(struct nx_live *receiver, void *room) {
+    Z_navtex_liveZ_nx_live_lend_2(&made(receiver, room, 2)->module, AT(handle), AT(room));
+}
+
+void nx_live_lend_3(struct nx_live *receiver, void *room) {
+    Z_navtex_liveZ_nx_live_lend_3(&made(receiver, room, 3)->module, AT(handle), AT(room));
 }
 
 void nx_live_return(struct nx_live *receiver) {

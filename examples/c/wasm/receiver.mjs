@@ -2,7 +2,7 @@
 // navtex-live.h. Each has the numbers of the module's memory as its arguments; here a method takes
 // bytes and gives bytes.
 
-const ROOM = 22400; // NX_LIVE_ROOM of the header
+const ROOM = 22392; // NX_LIVE_KEPT of the header, of three channels
 const MAX_ENTRY = 4163; // NX_LIVE_MAX_ENTRY
 const MAX_STATE = 11001; // no text of a state is longer
 const MAX_TEXT = 4100; // no text of an entry is longer
@@ -11,8 +11,8 @@ const PAGE = 65536;
 
 // What the calls write to, behind the module's own memory.
 const OFFSETS = {
-  handle: 0, heard: 8, written: 16, entry: 24, room: 48, log: 48 + ROOM, text: 48 + ROOM + MAX_ENTRY,
-  elements: 48 + ROOM + MAX_STATE,
+  handle: 0, heard: 16, written: 24, entry: 32, room: 56, log: 56 + ROOM, text: 56 + ROOM + MAX_ENTRY,
+  elements: 56 + ROOM + MAX_STATE,
 };
 const SIZE = OFFSETS.elements + PIECE;
 
@@ -44,7 +44,7 @@ export class Receiver {
     this.base = Math.ceil(Number(exports.__heap_base.value) / 8) * 8;
     const lacking = this.base + SIZE - exports.memory.buffer.byteLength;
     if (lacking > 0) grow(exports.memory, Math.ceil(lacking / PAGE));
-    exports.nx_live_lend(this.at("handle"), this.at("room"));
+    exports.nx_live_lend_3(this.at("handle"), this.at("room"));
   }
 
   at(name) {

@@ -22,14 +22,14 @@ use Rattle.std.specs.declared.option.Option.{Option}
 use Rattle.std.specs.declared.option.Option.TheVariants.{None, Some}
 use Rattle.nx_c.specs.Handle.{handle_owns, heap}
 use Rattle.nx_c.specs.contracts.receiver.handle.NxReceiver as handle
-use Rattle.nx_handle.specs.contracts.kept.Kept as kept
+use Rattle.nx_c.specs.contracts.receiver.open_receiver.OpenReceiver as open_receiver
 use Rattle.std_alloc.specs.Box.Ownership.{box_owns}
 
 abbrev pub Handle : RattleType
 Handle = handle.the_row
 
 abbrev pub R : RattleType
-R = kept.the_row
+R = open_receiver.the_row
 
 -- a struct of one value
 abbrev pub alone : Val → Val

@@ -1,19 +1,20 @@
-//! The calls of a receiver. Each does with what is kept what `nx_handle` does.
+//! The calls of a receiver. Each does with the places of its channels what `nx_handle` does.
 
-ghost use Rattle.std.specs.Prelude.{◌≡◌, None};
-ghost use Rattle.nx_c.specs.Opening.{OpensFromInBlock, OpensInBlock};
+ghost use Rattle.std.specs.Prelude.{◌≡◌, None, true};
+ghost use Rattle.nx_c.specs.Opening.{OpensFromInBlock, OpensInBlock, places_in};
 ghost use Rattle.nx_copies.specs.Events as events;
 ghost use Rattle.nx_receiver.specs.declared.command.Command.TheVariants.{RefuseStation, AcceptStation, RefuseSubject, AcceptSubject};
 ghost use Rattle.nx_handle.specs.CallerRoom.{room};
 ghost use Rattle.nx_handle.specs.Closing.{AnswersClosing};
 ghost use Rattle.nx_handle.specs.Hearing.{AnswersHearing};
-ghost use Rattle.nx_handle.specs.Life.{hearing};
 ghost use Rattle.nx_handle.specs.Opening.{AnswersMoment};
+ghost use Rattle.nx_handle.specs.Places.{all_closed, all_hear};
 ghost use Rattle.nx_handle.specs.Saving.{AnswersSaving};
 ghost use Rattle.nx_handle.specs.Selecting.{AnswersSelecting, command_status};
 
 use crate::receiver::handle::NxReceiver;
-use nx_handle::{Status, put};
+use crate::receiver::open_receiver::OpenReceiver;
+use nx_handle::{Place, Status, are_closed, copy_out};
 use nx_receiver::Command;
 use std::alloc::Global;
 
@@ -30,12 +31,14 @@ pub extern "C" fn nx_open(alloc: Global, receiver: &mut NxReceiver, moment: u64)
     if receiver.is_open(alloc) {
         return Status::AlreadyOpen.number();
     }
-    let mut slot = None;
-    let status = nx_handle::open(&mut slot, moment);
-    match slot {
-        Some(kept) => receiver.open_with(kept, alloc),
-        None => status,
+    let mut opened = OpenReceiver {
+        places: [Place::Closed, Place::Closed, Place::Closed],
+    };
+    let status = nx_handle::open(&mut opened.places, moment);
+    if status == Status::Done.number() {
+        return receiver.open_with(opened, alloc);
     }
+    status
 }
 
 /// Opens a receiver from the state with which these bytes begin: it remembers the state's entries,
@@ -52,33 +55,36 @@ pub extern "C" fn nx_open_from(alloc: Global, receiver: &mut NxReceiver, state: 
     if receiver.is_open(alloc) {
         return Status::AlreadyOpen.number();
     }
-    let mut slot = None;
-    let status = nx_handle::open_from(&mut slot, state);
-    match slot {
-        Some(kept) => receiver.open_with(kept, alloc),
-        None => status,
+    let mut opened = OpenReceiver {
+        places: [Place::Closed, Place::Closed, Place::Closed],
+    };
+    let status = nx_handle::open_from(&mut opened.places, state);
+    if status == Status::Done.number() {
+        return receiver.open_with(opened, alloc);
     }
+    status
 }
 
 /// Sets the moment from here on, of all channels. `MomentRange` where it is past the year 2999,
 /// `MomentBack` where it is before the one in force; the receiver then stays as it was.
 #[unsafe(no_mangle)]
 pub extern "C" fn nx_set_moment(alloc: Global, receiver: &mut NxReceiver, moment: u64) -> u32
-    ensures { AnswersMoment moment receiver.old.value receiver.new.value result
-        (hearing receiver.old.value) }
+    ensures { AnswersMoment moment (places_in receiver.old.value)
+        (places_in receiver.new.value) result
+        (all_hear (places_in receiver.old.value)) }
 {
-    let Some(mut kept) = receiver.take(alloc) else {
+    let Some(mut opened) = receiver.take(alloc) else {
         return Status::Closed.number();
     };
-    let status = nx_handle::set_moment_kept(&mut kept, moment);
-    receiver.put(kept, alloc);
+    let status = nx_handle::set_moment(&mut opened.places, moment);
+    receiver.hold(opened, alloc);
     status
 }
 
 /// Hears elements of a channel, 0 to 2, each a byte, 1 for B and 0 for Y: up to and with the one
 /// that ends the first copy that is printed. `heard` is how many it heard; the bytes of the entry
-/// are put into the caller's room, and `written` is their number, 0 where nothing is printed: then
-/// it heard all. Takes no memory.
+/// are copied into the caller's room, and `written` is their number, 0 where nothing is printed:
+/// then it heard all. Takes no memory.
 ///
 /// There has to be room for the largest entry, so that none is lost. Where the answer isn't `Done`,
 /// nothing is heard.
@@ -92,16 +98,17 @@ pub extern "C" fn nx_hear(
     log: &mut [u8],
     written: &mut usize,
 ) -> u32
-    ensures { AnswersHearing channel elements.now receiver.old.value receiver.new.value heard.new
+    ensures { AnswersHearing channel elements.now (places_in receiver.old.value)
+        (places_in receiver.new.value) heard.new
         (room log.old log.new written.new) result }
 {
-    let Some(mut kept) = receiver.take(alloc) else {
+    let Some(mut opened) = receiver.take(alloc) else {
         *heard = 0;
-        put(&[], log, written);
+        copy_out(&[], log, written);
         return Status::Closed.number();
     };
-    let status = nx_handle::hear_kept(&mut kept, channel, elements, heard, log, written);
-    receiver.put(kept, alloc);
+    let status = nx_handle::hear(&mut opened.places, channel, elements, heard, log, written);
+    receiver.hold(opened, alloc);
     status
 }
 
@@ -113,14 +120,15 @@ pub extern "C" fn nx_refuse_station(
     channel: u8,
     station: u8,
 ) -> u32
-    ensures { AnswersSelecting (command_status channel (RefuseStation station))
-        (events.refuse_station station) channel receiver.old.value receiver.new.value result }
+    ensures { AnswersSelecting (command_status channel 3 (RefuseStation station))
+        (events.refuse_station station) channel (places_in receiver.old.value)
+        (places_in receiver.new.value) result }
 {
-    let Some(mut kept) = receiver.take(alloc) else {
+    let Some(mut opened) = receiver.take(alloc) else {
         return Status::Closed.number();
     };
-    let status = nx_handle::select_kept(&mut kept, channel, Command::RefuseStation(station));
-    receiver.put(kept, alloc);
+    let status = nx_handle::select(&mut opened.places, channel, Command::RefuseStation(station));
+    receiver.hold(opened, alloc);
     status
 }
 
@@ -132,14 +140,15 @@ pub extern "C" fn nx_accept_station(
     channel: u8,
     station: u8,
 ) -> u32
-    ensures { AnswersSelecting (command_status channel (AcceptStation station))
-        (events.accept_station station) channel receiver.old.value receiver.new.value result }
+    ensures { AnswersSelecting (command_status channel 3 (AcceptStation station))
+        (events.accept_station station) channel (places_in receiver.old.value)
+        (places_in receiver.new.value) result }
 {
-    let Some(mut kept) = receiver.take(alloc) else {
+    let Some(mut opened) = receiver.take(alloc) else {
         return Status::Closed.number();
     };
-    let status = nx_handle::select_kept(&mut kept, channel, Command::AcceptStation(station));
-    receiver.put(kept, alloc);
+    let status = nx_handle::select(&mut opened.places, channel, Command::AcceptStation(station));
+    receiver.hold(opened, alloc);
     status
 }
 
@@ -152,14 +161,15 @@ pub extern "C" fn nx_refuse_subject(
     channel: u8,
     subject: u8,
 ) -> u32
-    ensures { AnswersSelecting (command_status channel (RefuseSubject subject))
-        (events.refuse_subject subject) channel receiver.old.value receiver.new.value result }
+    ensures { AnswersSelecting (command_status channel 3 (RefuseSubject subject))
+        (events.refuse_subject subject) channel (places_in receiver.old.value)
+        (places_in receiver.new.value) result }
 {
-    let Some(mut kept) = receiver.take(alloc) else {
+    let Some(mut opened) = receiver.take(alloc) else {
         return Status::Closed.number();
     };
-    let status = nx_handle::select_kept(&mut kept, channel, Command::RefuseSubject(subject));
-    receiver.put(kept, alloc);
+    let status = nx_handle::select(&mut opened.places, channel, Command::RefuseSubject(subject));
+    receiver.hold(opened, alloc);
     status
 }
 
@@ -171,18 +181,19 @@ pub extern "C" fn nx_accept_subject(
     channel: u8,
     subject: u8,
 ) -> u32
-    ensures { AnswersSelecting (command_status channel (AcceptSubject subject))
-        (events.accept_subject subject) channel receiver.old.value receiver.new.value result }
+    ensures { AnswersSelecting (command_status channel 3 (AcceptSubject subject))
+        (events.accept_subject subject) channel (places_in receiver.old.value)
+        (places_in receiver.new.value) result }
 {
-    let Some(mut kept) = receiver.take(alloc) else {
+    let Some(mut opened) = receiver.take(alloc) else {
         return Status::Closed.number();
     };
-    let status = nx_handle::select_kept(&mut kept, channel, Command::AcceptSubject(subject));
-    receiver.put(kept, alloc);
+    let status = nx_handle::select(&mut opened.places, channel, Command::AcceptSubject(subject));
+    receiver.hold(opened, alloc);
     status
 }
 
-/// Puts the text of a state into the caller's room, with which `nx_open_from` goes on: of each
+/// Copies the text of a state into the caller's room, with which `nx_open_from` goes on: of each
 /// channel the last 200 entries, and what is selected now. Copies that stand open are no part of
 /// it.
 ///
@@ -195,21 +206,22 @@ pub extern "C" fn nx_save(
     state: &mut [u8],
     written: &mut usize,
 ) -> u32
-    ensures { AnswersSaving receiver.old.value receiver.new.value
+    ensures { AnswersSaving (places_in receiver.old.value)
+        (places_in receiver.new.value)
         (room state.old state.new written.new) result }
 {
-    let Some(kept) = receiver.take(alloc) else {
-        put(&[], state, written);
+    let Some(opened) = receiver.take(alloc) else {
+        copy_out(&[], state, written);
         return Status::Closed.number();
     };
-    let status = nx_handle::save_kept(&kept, state, written);
-    receiver.put(kept, alloc);
+    let status = nx_handle::save(&opened.places, state, written);
+    receiver.hold(opened, alloc);
     status
 }
 
 /// Ends the elements of all channels, and hands out what their end prints, by channel: one entry a
-/// call, whose bytes are put into the caller's room. `written` is their number, and 0 where none is
-/// left: the receiver is closed then. From the first call on it hears nothing more.
+/// call, whose bytes are copied into the caller's room. `written` is their number, and 0 where none
+/// is left: the receiver is closed then. From the first call on it hears nothing more.
 ///
 /// There has to be room for the largest entry, so that none is lost. Where the answer isn't `Done`,
 /// the receiver stays as it was.
@@ -220,18 +232,20 @@ pub extern "C" fn nx_close(
     log: &mut [u8],
     written: &mut usize,
 ) -> u32
-    ensures { AnswersClosing receiver.old.value receiver.new.value
-        (room log.old log.new written.new) result }
+    ensures closes { AnswersClosing (places_in receiver.old.value)
+        (places_in receiver.new.value) (room log.old log.new written.new) result }
+    ensures closed { all_closed (places_in receiver.new.value) ≡ true
+        → receiver.new.value ≡ None }
 {
-    let Some(mut kept) = receiver.take(alloc) else {
-        put(&[], log, written);
+    let Some(mut opened) = receiver.take(alloc) else {
+        copy_out(&[], log, written);
         return Status::Closed.number();
     };
-    let (status, stays) = nx_handle::close_kept(&mut kept, log, written);
-    if !stays {
+    let status = nx_handle::close(&mut opened.places, log, written);
+    if are_closed(&opened.places) {
         return status;
     }
-    receiver.put(kept, alloc);
+    receiver.hold(opened, alloc);
     status
 }
 

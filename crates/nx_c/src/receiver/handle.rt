@@ -1,13 +1,14 @@
-//! A receiver in the caller's memory, which is a pointer to what is kept of it.
+//! A receiver in the caller's memory, which is a pointer to what it has where it is open.
 
 ghost use Rattle.std.specs.Prelude.{◌≡◌, ◌≢◌, None, Some, MatchOption, Option, is_some};
-ghost use Rattle.nx_c.specs.Handle.{handle_owns, kept_coded};
+ghost use Rattle.nx_c.specs.Handle.{handle_owns, open_coded};
 ghost use Rattle.nx_handle.specs.Status.{number_of};
-ghost use Rattle.nx_handle.specs.declared.kept.Kept.{Kept as WhatIsKept};
+ghost use Rattle.nx_c.specs.declared.receiver.open_receiver.OpenReceiver.{OpenReceiver as WhatIsOpen};
 ghost use Rattle.nx_handle.specs.declared.status.Status.TheVariants.{Done, Memory};
 
 use crate::receiver::loose::Loose;
-use nx_handle::{Kept, Status};
+use crate::receiver::open_receiver::OpenReceiver;
+use nx_handle::Status;
 use std::alloc::Global;
 use std::marker::Model;
 use std::mem::replace;
@@ -15,12 +16,12 @@ use std::ptr::null_mut;
 
 /// A receiver in the caller's memory: one pointer, which is null where the receiver is closed.
 ///
-/// It owns what is kept of the receiver. It is no `Drop`, so no function of this crate can lose one
+/// It owns what the receiver has then. It is no `Drop`, so no function of this crate can lose one
 /// that is open.
 #[repr(C)]
 pub struct NxReceiver {
     at: *mut (),
-    pub ghost value: { Option WhatIsKept } by { kept_coded },
+    pub ghost value: { Option WhatIsOpen } by { open_coded },
 }
 
 impl Model for NxReceiver {
@@ -35,16 +36,16 @@ impl NxReceiver {
         NxReceiver { at: null_mut() }
     }
 
-    /// The receiver of which this is kept.
-    fn of_loose(loose: Loose<Kept, Global>) -> NxReceiver
+    /// The receiver that has this.
+    fn of_loose(loose: Loose<OpenReceiver, Global>) -> NxReceiver
         ensures { result.value ≡ Some loose.value }
     {
         let Loose { at, alloc: _ } = loose;
         NxReceiver { at: at as *mut () }
     }
 
-    /// What is kept of the receiver; nothing where it is closed.
-    fn into_loose(self, alloc: Global) -> Option<Loose<Kept, Global>>
+    /// What the receiver has; nothing where it is closed.
+    fn into_loose(self, alloc: Global) -> Option<Loose<OpenReceiver, Global>>
         ensures { MatchOption result (self.value ≡ None) (λ loose. self.value ≡ Some loose.value) }
     {
         let NxReceiver { at } = self;
@@ -52,41 +53,41 @@ impl NxReceiver {
             return None;
         }
         Some(Loose {
-            at: at as *mut Kept,
+            at: at as *mut OpenReceiver,
             alloc,
         })
     }
 
-    /// Takes what is kept of the receiver, which is closed then; nothing where it was closed.
-    pub(crate) fn take(&mut self, alloc: Global) -> Option<Box<Kept>>
-        ensures kept { MatchOption result (self.old.value ≡ None)
-            (λ kept. self.old.value ≡ Some kept.value) }
+    /// Takes what the receiver has, which is closed then; nothing where it was closed.
+    pub(crate) fn take(&mut self, alloc: Global) -> Option<Box<OpenReceiver>>
+        ensures opened { MatchOption result (self.old.value ≡ None)
+            (λ opened. self.old.value ≡ Some opened.value) }
         ensures closed { self.new.value ≡ None }
     {
         let loose = replace(self, NxReceiver::closed()).into_loose(alloc)?;
         Some(loose.into_box())
     }
 
-    /// Keeps this of the receiver from here on. What was kept of it before is given back.
-    pub(crate) fn put(&mut self, kept: Box<Kept>, alloc: Global)
-        ensures { self.new.value ≡ Some kept.value }
+    /// Has the receiver hold this from here on. What it held before is given back.
+    pub(crate) fn hold(&mut self, opened: Box<OpenReceiver>, alloc: Global)
+        ensures { self.new.value ≡ Some opened.value }
     {
-        let receiver = NxReceiver::of_loose(Loose::of(kept));
+        let receiver = NxReceiver::of_loose(Loose::of(opened));
         if let Some(loose) = replace(self, receiver).into_loose(alloc) {
             drop(loose.into_box());
         }
     }
 
-    /// Opens a receiver with what is kept of it, in a block of its own. Answers the number of
+    /// Opens a receiver that has this, in a block of its own. Answers the number of
     /// `Done`, or of `Memory` where there is none for the block; the receiver then stays as it was.
-    pub(crate) fn open_with(&mut self, kept: Kept, alloc: Global) -> u32
-        ensures done { result ≡ number_of Done → self.new.value ≡ Some kept }
+    pub(crate) fn open_with(&mut self, opened: OpenReceiver, alloc: Global) -> u32
+        ensures done { result ≡ number_of Done → self.new.value ≡ Some opened }
         ensures refused { result ≢ number_of Done
             → (result ≡ number_of Memory) × (self.new.value ≡ self.old.value) }
     {
-        match Box::new(alloc, kept) {
-            Ok(kept) => {
-                self.put(kept, alloc);
+        match Box::new(alloc, opened) {
+            Ok(opened) => {
+                self.hold(opened, alloc);
                 Status::Done.number()
             }
             Err(_) => Status::Memory.number(),
@@ -99,8 +100,8 @@ impl NxReceiver {
         ensures unchanged { self.new.value ≡ self.old.value }
     {
         match self.take(alloc) {
-            Some(kept) => {
-                self.put(kept, alloc);
+            Some(opened) => {
+                self.hold(opened, alloc);
                 true
             }
             None => false,

@@ -1,6 +1,9 @@
 -- What closing answers, and what the ends print.
-use Rattle.std.proofs.Common.{◌≡◌, ◌<◌, ◌≤◌, inl, inr, ℕ, List, [], ◌∷◌, ◌++◌, length, map, arith, refl, sym, ap, ◌∙◌, subst, append-nil, Option, Some, None}
+use Rattle.std.proofs.Common.{◌≡◌, ◌≢◌, ◌<◌, ◌≤◌, ◌+◌, inl, inr, ℕ, zero, suc, Bool, true, false, List, [], ◌∷◌, ◌++◌, length, map, slice_get, slice_set, arith, refl, sym, ap, ◌∙◌, subst, append-nil, Option, Some, None}
+use Rattle.std.specs.List.{flat_map, list_all}
+use Rattle.std.proofs.lemmas.Bool.{cases_lt}
 use Rattle.std.proofs.lemmas.Grind.{common_steps}
+use Rattle.nx_fec.specs.air_files.Channels.{channel_number}
 use Rattle.nx_fec.specs.declared.air_files.channel.Channel.{Channel}
 use Rattle.nx_fec.specs.declared.air_files.channel.Channel.TheVariants.{Zero, One, Two}
 use Rattle.nx_copies.specs.copies.FoundCopies.{TaggedCopy}
@@ -8,192 +11,310 @@ use Rattle.nx_copies.specs.copies.InTurn.{PrintAllToEnd}
 use Rattle.nx_copies.specs.copies.Log.{IsEntry, PrintsToEnd}
 use Rattle.nx_copies.specs.copies.Shares.{Given, MarkedCopy, Starts, copies_on, marked, share, start_on}
 use Rattle.nx_handle.specs.Closing.{AnswersClosing, closing_status}
-use Rattle.nx_handle.specs.Life.{EndPrints, EndsWith, all_three, hearing}
-use Rattle.nx_handle.specs.Receivers.{HearsGiven, Listening, OneReceiver}
+use Rattle.nx_handle.specs.Life.{EndPrints, EndPrintsOn, EndsWith, HasHeard}
+use Rattle.nx_handle.specs.Places.{HasChannel, all_closed, all_hear, is_closed, is_hearing, place_on}
+use Rattle.nx_receiver.specs.Receiver.{Stands}
+use Rattle.nx_handle.specs.Receivers.{OneReceiver, content, one_on}
 use Rattle.nx_handle.specs.Status.{number_of}
-use Rattle.nx_handle.specs.CallerRoom.{IsPut, Room}
-use Rattle.nx_handle.specs.declared.kept.Kept.{Kept}
-use Rattle.nx_handle.proofs.lemmas.Receivers.{each-there}
+use Rattle.nx_handle.specs.CallerRoom.{IsCopiedOut, Room}
+use Rattle.nx_handle.specs.declared.places.Place.{Place}
+use Rattle.nx_handle.specs.declared.places.Place.TheVariants.{Closed, Hears, Ended}
+use Rattle.nx_handle.proofs.lemmas.Places.{each-is, number-is, one-or-other, past, set-here, set-long, set-there, there, within}
+use Rattle.nx_handle.proofs.lemmas.Silent.{silent-end}
 
-open-status : (kept : Kept) (capacity : ℕ) → 4163 ≤ capacity
-    → 0 ≡ number_of (closing_status (Some kept) capacity)
-open-status kept capacity enough = grind (arith, common_steps)
+open-status : (capacity : ℕ) → 4163 ≤ capacity → 0 ≡ number_of (closing_status false capacity)
+open-status capacity enough = grind (arith, common_steps)
 
-small-status : (kept : Kept) (capacity : ℕ) → capacity < 4163
-    → 1 ≡ number_of (closing_status (Some kept) capacity)
-small-status kept capacity small = grind (arith, common_steps)
+small-status : (capacity : ℕ) → capacity < 4163 → 1 ≡ number_of (closing_status false capacity)
+small-status capacity small = grind (arith, common_steps)
 
--- there is no room for the largest entry
-pub closes-without-room : (kept : Kept) (log : Room) (answer : ℕ) → length log.old < 4163
-    → answer ≡ 1 → IsPut [] log → AnswersClosing (Some kept) (Some kept) log answer
-closes-without-room kept log answer small is put = record {
-  cause = is ∙ small-status kept (length log.old) small;
+-- the receiver is closed
+pub closes-closed : (old : List Place) (log : Room) (answer : ℕ) → all_closed old ≡ true
+    → answer ≡ 32 → IsCopiedOut [] log → AnswersClosing old old log answer
+closes-closed old log answer closed is copied = record {
+  cause = is ∙ sym (ap (λ b. number_of (closing_status b (length log.old))) closed);
   text = [];
-  put = put;
+  copied = copied;
   fits = omega arith;
   done = λ e. absurd (omega (arith, sym is ∙ e));
   refused = λ _. (refl, refl);
+  channels = refl;
+}
+
+-- there is no room for the largest entry
+pub closes-without-room : (old : List Place) (log : Room) (answer : ℕ) → all_closed old ≡ false
+    → length log.old < 4163 → answer ≡ 1 → IsCopiedOut [] log → AnswersClosing old old log answer
+closes-without-room old log answer is_open small is copied = record {
+  cause = is ∙ small-status (length log.old) small
+      ∙ sym (ap (λ b. number_of (closing_status b (length log.old))) is_open);
+  text = [];
+  copied = copied;
+  fits = omega arith;
+  done = λ e. absurd (omega (arith, sym is ∙ e));
+  refused = λ _. (refl, refl);
+  channels = refl;
 }
 
 -- none is left
-pub closes-last : (kept : Kept) (log : Room) → 4163 ≤ length log.old → IsPut [] log
-    → EndsWith kept [] → AnswersClosing (Some kept) None log 0
-closes-last kept log enough put none = record {
-  cause = open-status kept (length log.old) enough;
+pub closes-last : (old new : List Place) (log : Room) → all_closed old ≡ false
+    → 4163 ≤ length log.old → IsCopiedOut [] log → EndsWith old [] → all_closed new ≡ true
+    → length new ≡ length old → AnswersClosing old new log 0
+closes-last old new log is_open enough copied none closed long = record {
+  cause = open-status (length log.old) enough
+      ∙ sym (ap (λ b. number_of (closing_status b (length log.old))) is_open);
   text = [];
-  put = put;
+  copied = copied;
   fits = omega arith;
   done = λ _. record {
-    kept = kept;
-    was = refl;
-    goes = inr (record { none = none; nothing = refl; closed = refl });
+    was_open = is_open;
+    goes = inr (record { none = none; nothing = refl; closed = closed });
   };
   refused = λ no. absurd (no refl);
+  channels = long;
 }
 
 -- one is handed out
-pub closes-one : (kept after : Kept) (log : Room) (copy : MarkedCopy) (bytes : List ℕ)
-    → 4163 ≤ length log.old → IsPut bytes log → length bytes ≤ 4163 → IsEntry copy bytes
-    → after.on_0 ≡ None
-    → ((left : List MarkedCopy) → EndsWith after left → EndsWith kept (copy ∷ left))
-    → AnswersClosing (Some kept) (Some after) log 0
-closes-one kept after log copy bytes enough put few spelled ended behind = record {
-  cause = open-status kept (length log.old) enough;
-  text = bytes;
-  put = put;
-  fits = omega (arith, few, enough);
-  done = λ _. record {
-    kept = kept;
-    was = refl;
-    goes = inl (record {
-      copy = copy;
-      entry = spelled;
-      after = after;
-      now = refl;
-      ended = ap (λ o. all_three o after.on_1 after.on_2) ended;
-      behind = behind;
-    });
-  };
-  refused = λ no. absurd (no refl);
-}
+pub closes-one : (old new : List Place) (log : Room) (copy : MarkedCopy) (bytes : List ℕ)
+    → all_closed old ≡ false → 4163 ≤ length log.old → IsCopiedOut bytes log
+    → length bytes ≤ 4163 → IsEntry copy bytes → all_hear new ≡ false → all_closed new ≡ false
+    → ((left : List MarkedCopy) → EndsWith new left → EndsWith old (copy ∷ left))
+    → length new ≡ length old → AnswersClosing old new log 0
+closes-one old new log copy bytes is_open enough copied few spelled ended still behind long =
+    record {
+      cause = open-status (length log.old) enough
+          ∙ sym (ap (λ b. number_of (closing_status b (length log.old))) is_open);
+      text = bytes;
+      copied = copied;
+      fits = omega (arith, few, enough);
+      done = λ _. record {
+        was_open = is_open;
+        goes = inl (record {
+          copy = copy;
+          entry = spelled;
+          ended = ended;
+          is_open = still;
+          behind = behind;
+        });
+      };
+      refused = λ no. absurd (no refl);
+      channels = long;
+    }
 
 -- ---- the ends one by one
 
--- no channel prints anything
-pub ends-silent : (kept : Kept) → EndPrints kept.on_0 [] → EndPrints kept.on_1 []
-    → EndPrints kept.on_2 [] → EndsWith kept []
-ends-silent kept zero one two = record {
-  on_0 = [];
-  on_1 = [];
-  on_2 = [];
-  prints_0 = zero;
-  prints_1 = one;
-  prints_2 = two;
+-- what is printed by channel
+abbrev pub by_channel : (Channel → List TaggedCopy) → List MarkedCopy
+by_channel last = flat_map (λ channel. map (marked channel) (last channel)) (Zero ∷ One ∷ Two ∷ [])
+
+-- a channel that has ended prints nothing more
+gone : (place : Option Place) (last : List TaggedCopy) → place ≡ Some Ended
+    → EndPrintsOn place last → last ≡ []
+gone place last e h = subst (λ o. EndPrintsOn o last) e h
+
+-- the end of a channel printed nothing
+pub silent-first : (old : List Place) (channel : Channel) (place : Place)
+    → place_on old channel ≡ Some place → EndPrints place [] → (left : List MarkedCopy)
+    → EndsWith (slice_set old (channel_number channel) Ended) left → EndsWith old left
+silent-first old channel place at silent left h =
+    let n = channel_number channel in record {
+      last = h.last;
+      prints = λ other. elim (one-or-other channel other) [
+        | inl same ↦
+            let now : place_on (slice_set old n Ended) other ≡ Some Ended =
+            subst (λ c. place_on (slice_set old n Ended) c ≡ Some Ended) same
+            (set-here old n Ended (within old n place at)) in
+            let none = gone (place_on (slice_set old n Ended) other) (h.last other) now
+            (h.prints other) in
+            subst (λ l. EndPrintsOn (place_on old other) l) (sym none)
+            (subst (λ c. EndPrintsOn (place_on old c) []) same
+            (subst (λ o. EndPrintsOn o []) (sym at) silent))
+        | inr apart ↦ subst (λ o. EndPrintsOn o (h.last other))
+            (set-there old n (channel_number other) Ended apart.1) (h.prints other)
+      ];
+      by_channel = h.by_channel;
+    }
+
+-- with these copies of a channel first
+abbrev with_last : (Channel → List TaggedCopy) → Channel → List TaggedCopy → Channel
+    → List TaggedCopy
+with_last last Zero copies Zero = copies
+with_last last Zero copies One = last One
+with_last last Zero copies Two = last Two
+with_last last One copies Zero = last Zero
+with_last last One copies One = copies
+with_last last One copies Two = last Two
+with_last last Two copies Zero = last Zero
+with_last last Two copies One = last One
+with_last last Two copies Two = copies
+
+with-own : (last : Channel → List TaggedCopy) (channel : Channel) (copies : List TaggedCopy)
+    → with_last last channel copies channel ≡ copies
+with-own last Zero copies = refl
+with-own last One copies = refl
+with-own last Two copies = refl
+
+with-other : (last : Channel → List TaggedCopy) (channel other : Channel)
+    (copies : List TaggedCopy) → channel_number other ≢ channel_number channel
+    → with_last last channel copies other ≡ last other
+with-other last Zero Zero copies apart = absurd (apart refl)
+with-other last Zero One copies apart = refl
+with-other last Zero Two copies apart = refl
+with-other last One Zero copies apart = refl
+with-other last One One copies apart = absurd (apart refl)
+with-other last One Two copies apart = refl
+with-other last Two Zero copies apart = refl
+with-other last Two One copies apart = refl
+with-other last Two Two copies apart = absurd (apart refl)
+
+-- the channels before it print nothing, and it prints one copy
+one-more : (last : Channel → List TaggedCopy) (channel : Channel) (copy : TaggedCopy)
+    → ((other : Channel) → channel_number other < channel_number channel → last other ≡ [])
+    → last channel ≡ []
+    → marked channel copy ∷ by_channel last ≡ by_channel (with_last last channel (copy ∷ []))
+one-more last Zero copy none own =
+    ap (λ l. marked Zero copy ∷ (map (marked Zero) l ++ (map (marked One) (last One)
+    ++ (map (marked Two) (last Two) ++ [])))) own
+one-more last One copy none own =
+    ap (λ l. marked One copy ∷ (map (marked Zero) l ++ (map (marked One) (last One)
+    ++ (map (marked Two) (last Two) ++ [])))) (none Zero (omega arith))
+    ∙ ap (λ l. marked One copy ∷ (map (marked One) l
+    ++ (map (marked Two) (last Two) ++ []))) own
+    ∙ sym (ap (λ l. map (marked Zero) l ++ marked One copy ∷ (map (marked Two) (last Two) ++ []))
+    (none Zero (omega arith)))
+one-more last Two copy none own =
+    ap (λ l. marked Two copy ∷ (map (marked Zero) l ++ (map (marked One) (last One)
+    ++ (map (marked Two) (last Two) ++ [])))) (none Zero (omega arith))
+    ∙ ap (λ l. marked Two copy ∷ (map (marked One) l
+    ++ (map (marked Two) (last Two) ++ []))) (none One (omega arith))
+    ∙ ap (λ l. marked Two copy ∷ (map (marked Two) l ++ [])) own
+    ∙ sym (ap (λ l. map (marked Zero) l ++ (map (marked One) (last One) ++ marked Two copy ∷ []))
+    (none Zero (omega arith))
+    ∙ ap (λ l. map (marked One) l ++ marked Two copy ∷ []) (none One (omega arith)))
+
+-- the end of a channel printed a copy, and those before it have ended
+pub printed-first : (old : List Place) (channel : Channel) (place : Place) (copy : TaggedCopy)
+    → place_on old channel ≡ Some place → EndPrints place (copy ∷ [])
+    → ((k : ℕ) → k < channel_number channel → slice_get old k ≡ Some Ended)
+    → (left : List MarkedCopy)
+    → EndsWith (slice_set old (channel_number channel) Ended) left
+    → EndsWith old (marked channel copy ∷ left)
+printed-first old channel place copy at prints before left h =
+    let n = channel_number channel in
+    let new = slice_set old n Ended in
+    let own : h.last channel ≡ [] =
+    gone (place_on new channel) (h.last channel) (set-here old n Ended (within old n place at))
+    (h.prints channel) in
+    let none = λ (other : Channel) (lt : channel_number other < n).
+    gone (place_on new other) (h.last other)
+    (set-there old n (channel_number other) Ended (λ e. omega (arith, lt, e))
+    ∙ before (channel_number other) lt) (h.prints other) in
+    record {
+      last = with_last h.last channel (copy ∷ []);
+      prints = λ other. elim (one-or-other channel other) [
+        | inl same ↦ subst (λ c. EndPrintsOn (place_on old c)
+            (with_last h.last channel (copy ∷ []) c)) same
+            (subst (λ l. EndPrintsOn (place_on old channel) l)
+            (sym (with-own h.last channel (copy ∷ [])))
+            (subst (λ o. EndPrintsOn o (copy ∷ [])) (sym at) prints))
+        | inr apart ↦ subst (λ l. EndPrintsOn (place_on old other) l)
+            (sym (with-other h.last channel other (copy ∷ []) apart.1))
+            (subst (λ o. EndPrintsOn o (h.last other))
+            (set-there old n (channel_number other) Ended apart.1) (h.prints other))
+      ];
+      by_channel = ap (λ l. marked channel copy ∷ l) h.by_channel
+          ∙ one-more h.last channel copy none own;
+    }
+
+-- one more has ended
+pub ended-more : (places : List Place) (at : ℕ) (place : Place) → at < length places
+    → place ≡ Ended → ((k : ℕ) → k < at → slice_get places k ≡ Some Ended) → (k : ℕ) → k < at + 1
+    → slice_get (slice_set places at place) k ≡ Some Ended
+ended-more places at place has is before k lt = elim (cases_lt k at) [
+  | inl less ↦ set-there places at k place (λ e. omega (arith, less, e)) ∙ before k less
+  | inr more ↦
+      let same : k ≡ at = omega (arith, lt, more) in
+      ap (slice_get (slice_set places at place)) same ∙ set-here places at place has
+      ∙ ap (λ p. Some p) is
+]
+
+-- no channel prints anything, where each has ended
+pub all-gone : (places : List Place)
+    → ((k : ℕ) → k < length places → slice_get places k ≡ Some Ended) → EndsWith places []
+all-gone places ended = record {
+  last = λ channel. [];
+  prints = λ channel. elim (cases_lt (channel_number channel) (length places)) [
+    | inl lt ↦ subst (λ o. EndPrintsOn o []) (sym (ended (channel_number channel) lt)) refl
+    | inr le ↦ subst (λ o. EndPrintsOn o [])
+        (sym (past places (channel_number channel) (omega (arith, le)))) refl
+  ];
   by_channel = refl;
 }
 
--- a channel that has ended prints nothing more
-gone : (place : Option OneReceiver) (last : List TaggedCopy) → place ≡ None
-    → EndPrints place last → last ≡ []
-gone place last e h = subst (λ o. EndPrints o last) e h
+-- a place that doesn't hear prints nothing
+pub not-hearing : (place : Place) → ((r : OneReceiver) → place ≡ Hears r → ⊥) → EndPrints place []
+not-hearing Closed never = refl
+not-hearing (Hears r) never = absurd (never r refl)
+not-hearing Ended never = refl
 
--- channel 0 prints a copy first
-pub zero-first : (old new : Kept) (copy : TaggedCopy) → new.on_0 ≡ None → new.on_1 ≡ old.on_1
-    → new.on_2 ≡ old.on_2 → EndPrints old.on_0 (copy ∷ []) → (left : List MarkedCopy)
-    → EndsWith new left → EndsWith old (marked Zero copy ∷ left)
-zero-first old new copy ended one two prints left h = record {
-  on_0 = copy ∷ [];
-  on_1 = h.on_1;
-  on_2 = h.on_2;
-  prints_0 = prints;
-  prints_1 = subst (λ o. EndPrints o h.on_1) one h.prints_1;
-  prints_2 = subst (λ o. EndPrints o h.on_2) two h.prints_2;
-  by_channel = ap (λ l. marked Zero copy ∷ l)
-      (h.by_channel
-      ∙ ap (λ l. map (marked Zero) l ++ (map (marked One) h.on_1 ++ map (marked Two) h.on_2))
-      (gone new.on_0 h.on_0 ended h.prints_0));
-}
+closed-silent : (place : Place) → is_closed place ≡ true → EndPrints place []
+closed-silent Closed e = refl
+closed-silent (Hears r) e = cc
+closed-silent Ended e = refl
 
--- channel 0 prints nothing, and channel 1 a copy
-pub one-first : (old new : Kept) (copy : TaggedCopy) → new.on_0 ≡ None → new.on_1 ≡ None
-    → new.on_2 ≡ old.on_2 → EndPrints old.on_0 [] → EndPrints old.on_1 (copy ∷ [])
-    → (left : List MarkedCopy)
-    → EndsWith new left → EndsWith old (marked One copy ∷ left)
-one-first old new copy zero ended two silent prints left h = record {
-  on_0 = [];
-  on_1 = copy ∷ [];
-  on_2 = h.on_2;
-  prints_0 = silent;
-  prints_1 = prints;
-  prints_2 = subst (λ o. EndPrints o h.on_2) two h.prints_2;
-  by_channel = ap (λ l. marked One copy ∷ l)
-      (h.by_channel
-      ∙ ap (λ l. map (marked Zero) l ++ (map (marked One) h.on_1 ++ map (marked Two) h.on_2))
-      (gone new.on_0 h.on_0 zero h.prints_0)
-      ∙ ap (λ l. map (marked One) l ++ map (marked Two) h.on_2)
-      (gone new.on_1 h.on_1 ended h.prints_1));
-}
-
--- channels 0 and 1 print nothing, and channel 2 a copy
-pub two-first : (old new : Kept) (copy : TaggedCopy) → new.on_0 ≡ None → new.on_1 ≡ None
-    → new.on_2 ≡ None → EndPrints old.on_0 [] → EndPrints old.on_1 []
-    → EndPrints old.on_2 (copy ∷ []) → (left : List MarkedCopy)
-    → EndsWith new left → EndsWith old (marked Two copy ∷ left)
-two-first old new copy zero one ended silent_0 silent_1 prints left h = record {
-  on_0 = [];
-  on_1 = [];
-  on_2 = copy ∷ [];
-  prints_0 = silent_0;
-  prints_1 = silent_1;
-  prints_2 = prints;
-  by_channel = ap (λ l. marked Two copy ∷ l)
-      (h.by_channel
-      ∙ ap (λ l. map (marked Zero) l ++ (map (marked One) h.on_1 ++ map (marked Two) h.on_2))
-      (gone new.on_0 h.on_0 zero h.prints_0)
-      ∙ ap (λ l. map (marked One) l ++ map (marked Two) h.on_2)
-      (gone new.on_1 h.on_1 one h.prints_1)
-      ∙ ap (λ l. map (marked Two) l) (gone new.on_2 h.on_2 ended h.prints_2));
+pub closed-gone : (places : List Place) → all_closed places ≡ true → EndsWith places []
+closed-gone places closed = record {
+  last = λ channel. [];
+  prints = λ channel. elim (cases_lt (channel_number channel) (length places)) [
+    | inl lt ↦
+        let p = there places (channel_number channel) lt in
+        subst (λ o. EndPrintsOn o []) (sym p.1)
+        (closed-silent p.0
+        (each-is is_closed places (channel_number channel) p.0 closed p.1))
+    | inr le ↦ subst (λ o. EndPrintsOn o [])
+        (sym (past places (channel_number channel) (omega (arith, le)))) refl
+  ];
+  by_channel = refl;
 }
 
 -- ---- the end of all that was given
 
-abbrev closed-on : List TaggedCopy → List TaggedCopy → List TaggedCopy → Channel → List TaggedCopy
-closed-on on_0 on_1 on_2 Zero = on_0
-closed-on on_0 on_1 on_2 One = on_1
-closed-on on_0 on_1 on_2 Two = on_2
+-- the receiver of a channel stands so
+pub stands-on : (starts : Starts) (places : List Place) (given : List Given)
+    (copies : List MarkedCopy) → (stood : HasHeard starts places given copies)
+    → (channel : Channel) → Stands content (start_on starts channel)
+    (one_on stood.listener channel) (share channel given) (copies_on channel copies)
+stands-on starts places given copies stood Zero = stood.heard.receivers Zero
+stands-on starts places given copies stood One = stood.heard.receivers One
+stands-on starts places given copies stood Two = stood.heard.receivers Two
 
--- what an end prints, of a receiver that there is
-there : (place : Option OneReceiver) (r : OneReceiver) (last : List TaggedCopy) → place ≡ Some r
-    → EndPrints place last → EndPrints (Some r) last
-there place r last e h = subst (λ o. EndPrints o last) e h
+ends-on : (starts : Starts) (places : List Place) (given : List Given)
+    (copies left : List MarkedCopy) → (stood : HasHeard starts places given copies)
+    → (h : EndsWith places left) → (channel : Channel)
+    → PrintsToEnd (start_on starts channel) (share channel given)
+    (copies_on channel copies ++ h.last channel)
+ends-on starts places given copies left stood h channel =
+    elim (cases_lt (channel_number channel) (length places)) [
+      | inl lt ↦ (subst (λ o. EndPrintsOn o (h.last channel)) (stood.hears channel lt)
+          (h.prints channel)) (start_on starts channel) (share channel given)
+          (copies_on channel copies) (stands-on starts places given copies stood channel)
+      | inr le ↦
+          let none : h.last channel ≡ [] =
+          subst (λ o. EndPrintsOn o (h.last channel))
+          (past places (channel_number channel) (omega (arith, le))) (h.prints channel) in
+          subst (λ l. PrintsToEnd (start_on starts channel) (share channel given) l)
+          (sym (ap (λ l. copies_on channel copies ++ l) none
+          ∙ append-nil (copies_on channel copies)))
+          (silent-end (start_on starts channel) (share channel given) (copies_on channel copies)
+          (stood.no_elements channel (omega (arith, le))) (stood.heard.in_turn.each channel))
+    ]
 
-ends-on : (starts : Starts) (l : Listening) (kept : Kept) (given : List Given)
-    (copies left : List MarkedCopy) → hearing (Some kept) ≡ Some l
-    → HearsGiven starts l given copies → (h : EndsWith kept left)
-    → (channel : Channel) → PrintsToEnd (start_on starts channel) (share channel given)
-    (copies_on channel copies ++ closed-on h.on_0 h.on_1 h.on_2 channel)
-ends-on starts l kept given copies left is stood h Zero =
-    there kept.on_0 l.on_0 h.on_0 (each-there kept.on_0 kept.on_1 kept.on_2 l is).0 h.prints_0 _ _ _
-    (stood.receivers Zero)
-ends-on starts l kept given copies left is stood h One =
-    there kept.on_1 l.on_1 h.on_1 (each-there kept.on_0 kept.on_1 kept.on_2 l is).1 h.prints_1 _ _ _
-    (stood.receivers One)
-ends-on starts l kept given copies left is stood h Two =
-    there kept.on_2 l.on_2 h.on_2 (each-there kept.on_0 kept.on_1 kept.on_2 l is).2 h.prints_2 _ _ _
-    (stood.receivers Two)
-
-pub ends-all : (starts : Starts) (l : Listening) (kept : Kept) (given : List Given)
-    (copies left : List MarkedCopy) → hearing (Some kept) ≡ Some l
-    → HearsGiven starts l given copies → EndsWith kept left
+pub ends-all : (starts : Starts) (places : List Place) (given : List Given)
+    (copies left : List MarkedCopy) → HasHeard starts places given copies → EndsWith places left
     → PrintAllToEnd starts given (copies ++ left)
-ends-all starts l kept given copies left is stood h =
-    let two = map (marked Two) h.on_2 in record {
-      ended = copies;
-      in_turn = stood.in_turn;
-      closed = closed-on h.on_0 h.on_1 h.on_2;
-      to_end = ends-on starts l kept given copies left is stood h;
-      whole = ap (λ all. copies ++ all)
-          (h.by_channel
-          ∙ ap (λ t. map (marked Zero) h.on_0 ++ (map (marked One) h.on_1 ++ t))
-          (sym (append-nil two)));
-    }
+ends-all starts places given copies left stood h = record {
+  ended = copies;
+  in_turn = stood.heard.in_turn;
+  closed = h.last;
+  to_end = ends-on starts places given copies left stood h;
+  whole = ap (λ all. copies ++ all) h.by_channel;
+}

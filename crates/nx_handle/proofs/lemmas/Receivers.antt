@@ -1,5 +1,5 @@
 -- What the three receivers stand after, by what each of them does.
-use Rattle.std.proofs.Common.{◌≡◌, ℕ, ◌+◌, false, List, [], ◌++◌, length, map, refl, sym, ap, ◌∙◌, subst, subst₂, Option, Some, None}
+use Rattle.std.proofs.Common.{◌≡◌, ◌<◌, ℕ, ◌+◌, false, List, [], ◌++◌, length, map, take, refl, sym, ap, ◌∙◌, subst, subst₂}
 use Rattle.std.proofs.lemmas.List.{take_all}
 use Rattle.std.proofs.Common.{arith, Bool}
 use Rattle.nx_fec.specs.Transfers.{count_of}
@@ -17,10 +17,9 @@ use Rattle.nx_receiver.specs.ChannelReceiver.{TakesEventBy}
 use Rattle.nx_receiver.specs.private.PlainReceiver.{plain-receiver}
 use Rattle.nx_receiver.proofs.lemmas.listening.Listener.{commanded, heard-first, hears-more}
 use Rattle.nx_receiver.proofs.lemmas.listening.Listener.{none-before, none-given, on-all, set-all}
-use Rattle.nx_handle.specs.Hearing.{HearsElements, HearsOn}
-use Rattle.nx_handle.specs.Life.{all_three, hearing}
-use Rattle.nx_handle.specs.Receivers.{HearsGiven, Listening, OneReceiver, content, counted, three}
-use Rattle.nx_handle.specs.declared.kept.Kept.{Kept}
+use Rattle.nx_copies.specs.copies.InTurn.{PrintsInTurn}
+use Rattle.nx_handle.specs.Hearing.{HearsOn}
+use Rattle.nx_handle.specs.Receivers.{HearsGiven, Listening, OneReceiver, content, counted, one_on, three}
 
 -- a listener of these receivers, which counted so many elements and entries
 abbrev pub with_counts : Listening → ℕ → ℕ → ListeningOver OneReceiver
@@ -33,12 +32,7 @@ with_counts l n m = record {
   entries = m;
 }
 
--- the receiver of a channel, and the three with another in its place
-abbrev pub one_on : Listening → Channel → OneReceiver
-one_on l Zero = l.on_0
-one_on l One = l.on_1
-one_on l Two = l.on_2
-
+-- the three with another in the place of that of a channel
 abbrev pub with_one : Listening → Channel → OneReceiver → Listening
 with_one l Zero r = record l { on_0 = r }
 with_one l One r = record l { on_1 = r }
@@ -125,11 +119,25 @@ at-channel l Zero n m = refl
 at-channel l One n m = refl
 at-channel l Two n m = refl
 
-one-is : (l : Listening) (channel : Channel) (r : OneReceiver)
+pub one-is : (l : Listening) (channel : Channel) (r : OneReceiver)
     → r ≡ one_on (with_one l channel r) channel
 one-is l Zero r = refl
 one-is l One r = refl
 one-is l Two r = refl
+
+-- three receivers hear elements of a channel, and print these copies, behind whatever they were
+-- given; with no element before the last they print anything
+pub record HearTo (channel : Channel) (old new : Listening) (bits : List Bool)
+    (next : List TaggedCopy)
+    : Type 0 where
+  pub heard : (starts : Starts) (given : List Given) (part : List Bool) (copies : List MarkedCopy)
+      → HearsGiven starts old (then_elements given channel part) copies
+      → HearsGiven starts new (then_elements given channel (part ++ bits))
+      (copies ++ map (marked channel) next)
+  pub first : (starts : Starts) (given : List Given) (part : List Bool) (copies : List MarkedCopy)
+      → HearsGiven starts old (then_elements given channel part) copies
+      → (k : ℕ) → k < length bits
+      → PrintsInTurn starts (then_elements given channel (part ++ take k bits)) copies
 
 module _ (old : Listening) (channel : Channel) (r : OneReceiver) (bits : List Bool)
     (text : List ℕ) (h : HearsOn channel (one_on old channel) r bits text) where
@@ -152,11 +160,8 @@ module _ (old : Listening) (channel : Channel) (r : OneReceiver) (bits : List Bo
       (at-channel old channel n m) h.first
 
   -- the receiver of a channel hears elements, and so do the three
-  pub elements-heard : HearsElements channel old new bits text
+  pub elements-heard : HearTo channel old new bits h.next
   elements-heard = record {
-    next = h.next;
-    few = h.few;
-    spelled = h.spelled;
     heard = λ starts given part copies stood.
         let was = counted old (then_elements given channel part) copies in
         let n = count_of (was.elements + length bits) in
@@ -192,49 +197,3 @@ pub begun : (starts : Starts) (on_0 on_1 on_2 : OneReceiver)
 begun starts on_0 on_1 on_2 zero one two =
     recounted starts (three on_0 on_1 on_2) 0 0 [] []
     (heard-first (plain-receiver content) starts on_0 on_1 on_2 zero one two)
-
--- ---- what is kept
-
--- the three that hear, by the receivers that there are
-pub three-hear : (on_0 on_1 on_2 : Option OneReceiver) (a b c : OneReceiver) → on_0 ≡ Some a
-    → on_1 ≡ Some b → on_2 ≡ Some c → all_three on_0 on_1 on_2 ≡ Some (three a b c)
-three-hear on_0 on_1 on_2 a b c e f g =
-    ap (λ o. all_three o on_1 on_2) e ∙ ap (λ o. all_three (Some a) o on_2) f
-    ∙ ap (all_three (Some a) (Some b)) g
-
-pub kept-hears : (kept : Kept) (a b c : OneReceiver) → kept.on_0 ≡ Some a → kept.on_1 ≡ Some b
-    → kept.on_2 ≡ Some c → hearing (Some kept) ≡ Some (three a b c)
-kept-hears kept a b c e f g = three-hear kept.on_0 kept.on_1 kept.on_2 a b c e f g
-
-some-is : {A : Type 0} {x y : A} → Some x ≡ Some y → x ≡ y
-some-is e = cc
-
-IsOne : {A : Type 0} → Option A → Type 0
-IsOne None = ⊥
-IsOne (Some x) = Unit {0}
-
-none-is : {A : Type 0} {x : A} → None ≡ Some x → ⊥
-unfolding IsOne
-none-is {A} {x} e = subst (λ (o : Option A). IsOne o) (sym e) tt
-
--- and each of them is there, where the three hear
-pub each-there : (on_0 on_1 on_2 : Option OneReceiver) (l : Listening)
-    → all_three on_0 on_1 on_2 ≡ Some l
-    → (on_0 ≡ Some l.on_0) × (on_1 ≡ Some l.on_1) × (on_2 ≡ Some l.on_2)
-each-there None on_1 on_2 l e = absurd (none-is e)
-each-there (Some a) None on_2 l e = absurd (none-is e)
-each-there (Some a) (Some b) None l e = absurd (none-is e)
-each-there (Some a) (Some b) (Some c) l e = let is : three a b c ≡ l = some-is e in (
-  ap (λ (t : Listening). Some t.on_0) is,
-  ap (λ (t : Listening). Some t.on_1) is,
-  ap (λ (t : Listening). Some t.on_2) is,
-)
-
--- what is kept stays, where each receiver does
-pub same-kept : (kept : Kept) (on_0 on_1 on_2 : Option OneReceiver) → on_0 ≡ kept.on_0
-    → on_1 ≡ kept.on_1 → on_2 ≡ kept.on_2
-    → record kept { on_0 = on_0; on_1 = on_1; on_2 = on_2 } ≡ kept
-same-kept kept on_0 on_1 on_2 e f g =
-    ap (λ (o : Option OneReceiver). record kept { on_0 = o; on_1 = on_1; on_2 = on_2 }) e
-    ∙ ap (λ (o : Option OneReceiver). record kept { on_1 = o; on_2 = on_2 }) f
-    ∙ ap (λ (o : Option OneReceiver). record kept { on_2 = o }) g

@@ -1,15 +1,15 @@
--- A text that is put into a room piece by piece.
+-- A text that is copied into a room piece by piece.
 use Rattle.std.proofs.Common.{◌≡◌, ◌≤◌, ◌+◌, ◌-◌, inl, inr, ℕ, List, ◌++◌, length, take, drop, min, arith, sym, ap, ap₂, ◌∙◌, append_assoc, append-nil}
 use Rattle.std.proofs.lemmas.Bool.{cases_lt}
 use Rattle.std.proofs.lemmas.List.{drop-drop, length-append, length-drop, length-take, take-append-le, take_all, drop_all}
 use Rattle.std.proofs.Math.Seq.{drop-append-add, take-append-add, take-append_seam}
 
--- what a room holds that had this, where as much of a text is put as it has room for
-abbrev pub put_in : List ℕ → List ℕ → List ℕ
-put_in text old =
+-- what a room holds that had this, where as much of a text is copied as it has room for
+abbrev pub copied_in : List ℕ → List ℕ → List ℕ
+copied_in text old =
     take (min (length text) (length old)) text ++ drop (min (length text) (length old)) old
 
-pub same-length : (old text : List ℕ) → length (put_in text old) ≡ length old
+pub same-length : (old text : List ℕ) → length (copied_in text old) ≡ length old
 same-length old text =
     let m = min (length text) (length old) in
     omega (
@@ -21,10 +21,10 @@ same-length old text =
 
 -- the text ends in the room
 within : (old text piece now new : List ℕ) (from count : ℕ) → length text ≤ length old
-    → now ≡ put_in text old → from ≡ min (length text) (length now)
+    → now ≡ copied_in text old → from ≡ min (length text) (length now)
     → count ≡ min (length piece) (length now - from)
     → new ≡ take from now ++ (take count piece ++ drop (from + count) now)
-    → new ≡ put_in (text ++ piece) old
+    → new ≡ copied_in (text ++ piece) old
 within old text piece now new from count few e f g h =
     let n = length text in
     let long : length now ≡ length old = ap length e ∙ same-length old text in
@@ -47,10 +47,10 @@ within old text piece now new from count few e f g h =
 
 -- the text is longer than the room
 beyond : (old text piece now new : List ℕ) (from count : ℕ) → length old ≤ length text
-    → now ≡ put_in text old → from ≡ min (length text) (length now)
+    → now ≡ copied_in text old → from ≡ min (length text) (length now)
     → count ≡ min (length piece) (length now - from)
     → new ≡ take from now ++ (take count piece ++ drop (from + count) now)
-    → new ≡ put_in (text ++ piece) old
+    → new ≡ copied_in (text ++ piece) old
 beyond old text piece now new from count full e f g h =
     let n = length old in
     let long : length now ≡ n = ap length e ∙ same-length old text in
@@ -68,12 +68,12 @@ beyond old text piece now new from count full e f g h =
     ∙ ap (λ t. t ++ drop n old) (sym (take-append-le n text piece full))
     ∙ ap (λ k. take k (text ++ piece) ++ drop k old) (sym more)
 
-pub put-more : (old text piece now new : List ℕ) (from count : ℕ)
-    → now ≡ put_in text old → from ≡ min (length text) (length now)
+pub copied-more : (old text piece now new : List ℕ) (from count : ℕ)
+    → now ≡ copied_in text old → from ≡ min (length text) (length now)
     → count ≡ min (length piece) (length now - from)
     → new ≡ take from now ++ (take count piece ++ drop (from + count) now)
-    → new ≡ put_in (text ++ piece) old
-put-more old text piece now new from count e f g h = elim (cases_lt (length old) (length text)) [
+    → new ≡ copied_in (text ++ piece) old
+copied-more old text piece now new from count e f g h = elim (cases_lt (length old) (length text)) [
   | inl full ↦ beyond old text piece now new from count (omega (arith, full)) e f g h
   | inr few ↦ within old text piece now new from count (omega (arith, few)) e f g h
 ]

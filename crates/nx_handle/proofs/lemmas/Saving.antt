@@ -1,17 +1,23 @@
 -- What saving answers, and opening from what is saved.
-use Rattle.std.proofs.Common.{◌≡◌, ◌≢◌, ◌≤◌, ◌<◌, inl, inr, ℕ, ◌+◌, Bool, false, true, codes, List, [], ◌∷◌, ◌++◌, length, take, drop, is_some, refl, sym, ap, ap₂, ◌-◌, ◌∙◌, subst, append_assoc, append-nil, arith, Option, Some, None}
+use Rattle.std.proofs.Common.{◌≡◌, ◌≢◌, ◌≤◌, ◌<◌, inl, inr, ℕ, ◌+◌, ◌||◌, ◌⊎◌, Bool, false, true, IsTrue, codes, List, [], ◌∷◌, ◌++◌, length, take, drop, refl, sym, ap, ap₂, ◌-◌, ◌∙◌, subst, append_assoc, append-nil, arith, Some}
 use Rattle.nx_code.specs.Reading.{newline}
 use Rattle.nx_memory.specs.Saved.{SavedStates}
 use Rattle.nx_memory.specs.StateText.{BeginsNoText, BeginsText, IsShortLine, IsStateText}
 use Rattle.nx_copies.specs.copies.Shares.{starts_from}
 use Rattle.nx_fec.specs.Transfers.{whole_input}
+use Rattle.nx_fec.specs.declared.air_files.channel.Channel.TheVariants.{Zero, One, Two}
 use Rattle.nx_receiver.specs.air_file_runs.State.{AnswersState, BeginsWith, BeginsWithState, ended_lines}
 use Rattle.nx_receiver.proofs.lemmas.state.Answers.{good_answer}
 use Rattle.nx_receiver.proofs.lemmas.state.Splits.{ended-one}
+use Rattle.nx_code.specs.Reading.{IsCapital}
+use Rattle.nx_memory.specs.Selection.{IsRefusable, Refused}
 use Rattle.nx_handle.specs.Life.{HasHeard}
-use Rattle.nx_handle.specs.Saving.{IsFirstLine, OpensFrom, RefusesText, StandsNext}
+use Rattle.nx_handle.specs.Places.{all_closed}
+use Rattle.nx_handle.specs.Saving.{AnswersOpeningFrom, HasNoMore, HasNothing, IsFirstLine, OpensFromBy, RefusesEnd, RefusesLetter, RefusesState, RefusesText, StandsNext}
 use Rattle.nx_handle.specs.Status.{number_of}
-use Rattle.nx_handle.specs.declared.kept.Kept.{Kept}
+use Rattle.std.specs.FinSet as set
+use Rattle.nx_handle.specs.declared.places.Place.{Place}
+use Rattle.nx_handle.proofs.lemmas.Places.{both-closed}
 use Rattle.nx_handle.specs.declared.status.Status.{Status}
 use Rattle.nx_handle.specs.declared.status.Status.TheVariants as status
 use Rattle.std.specs.Prelude.{Err, Ok, slice_index_or}
@@ -34,20 +40,6 @@ begins-as bytes P Q holds b = record {
   stands_for = b.stands_for;
   here = holds b.states b.more b.here;
 }
-
-pub is-none : (receiver : Option Kept) (is_open : Bool) → is_open ≡ is_some receiver
-    → is_open ≡ false
-    → receiver ≡ None
-is-none None is_open is closed = refl
-is-none (Some kept) is_open is closed = cc
-
-pub opens-from-it : (bytes : List ℕ) (new : Option Kept)
-    → BeginsWith bytes (λ states more. HasHeard (starts_from states) new [] [])
-    → OpensFrom bytes new 0
-opens-from-it bytes new b =
-    inl (begins-as bytes (λ states more. HasHeard (starts_from states) new [] [])
-    (λ states more. (0 ≡ 0) × HasHeard (starts_from states) new [] [])
-    (λ states more heard. (refl, heard)) b)
 
 -- the answer of reading bytes that begin with a state
 its-answer : (bytes : List ℕ) (P : SavedStates → Type 0)
@@ -74,28 +66,71 @@ its-state bytes P b = record {
   here = refl;
 }
 
--- bytes begin with one state, of which both hold
-pub begins-both : (bytes : List ℕ) (P Q : SavedStates → Type 0)
-    → BeginsWith bytes (λ states more. P states) → BeginsWith bytes (λ states more. Q states)
-    → BeginsWith bytes (λ states more. P states × Q states)
-begins-both bytes P Q b d =
-    let same : d.states ≡ b.states = good_answer (Some bytes) (Ok d.states) (its-answer bytes Q d)
-    b.states (its-state bytes P b) in
-    record {
+-- bytes begin with one state, of which all hold
+pub begins-all : (bytes : List ℕ) (P : ℕ → SavedStates → Type 0) (count : ℕ) → 0 < count
+    → ((k : ℕ) → k < count → BeginsWith bytes (λ states more. P k states))
+    → BeginsWith bytes (λ states more. (k : ℕ) → k < count → P k states)
+begins-all bytes P count some h =
+    let b = h 0 some in record {
       text = b.text;
       more = b.more;
       states = b.states;
       whole = b.whole;
       stands_for = b.stands_for;
-      here = (b.here, subst Q same d.here);
+      here = λ k lt.
+          let d = h k lt in
+          let same : d.states ≡ b.states =
+          good_answer (Some bytes) (Ok d.states) (its-answer bytes (P k) d) b.states
+          (its-state bytes (P 0) b) in
+          subst (P k) same d.here;
     }
 
-pub opens-not : (bytes : List ℕ) (why : Status) (answer : ℕ) → RefusesText bytes why
-    → answer ≡ number_of why → OpensFrom bytes None answer
-opens-not bytes why answer reads e = elim reads [
-  | inl h ↦ inr (inl (h.0, h.1, e ∙ ap number_of h.2, refl))
-  | inr h ↦ inr (inr (h.0, h.1, e ∙ ap number_of h.2, refl))
-]
+-- what a receiver answers that is opened from a state, and that isn't
+pub opens-from-it : (bytes : List ℕ) (old new : List Place) → all_closed old ≡ true
+    → BeginsWith bytes (λ states more. HasNoMore (length old) states
+    × HasHeard (starts_from states) new [] []) → length new ≡ length old
+    → AnswersOpeningFrom bytes old new 0
+opens-from-it bytes old new closed b long = record {
+  opens = subst (λ o. OpensFromBy o bytes old new 0) (sym closed)
+      (inl (begins-as bytes
+      (λ states more. HasNoMore (length old) states × HasHeard (starts_from states) new [] [])
+      (λ states more. (0 ≡ 0) × HasNoMore (length old) states
+      × HasHeard (starts_from states) new [] [])
+      (λ states more h. (refl, h.0, h.1)) b));
+  channels = long;
+}
+
+pub opens-not : (bytes : List ℕ) (old new : List Place) (why : Status) (answer : ℕ)
+    → all_closed old ≡ true → RefusesState (length old) bytes why → answer ≡ number_of why
+    → all_closed new ≡ true → length new ≡ length old → AnswersOpeningFrom bytes old new answer
+opens-not bytes old new why answer closed refuses e shut long = record {
+  opens = subst (λ o. OpensFromBy o bytes old new answer) (sym closed)
+      (inr (why, refuses, e, both-closed old new closed shut long));
+  channels = long;
+}
+
+-- ---- what is saved of channels
+
+pub no-more : (count : ℕ) (states : SavedStates) → 0 < count
+    → (count ≤ 1 → HasNothing states.on_1) → (count ≤ 2 → HasNothing states.on_2)
+    → HasNoMore count states
+no-more count states first one two Zero le = absurd (omega (arith, first, le))
+no-more count states first one two One le = one le
+no-more count states first one two Two le = two le
+
+or-cases : (a b : Bool) → IsTrue (a || b) → IsTrue a ⊎ IsTrue b
+or-cases true b h = inl refl
+or-cases false b h = inr h
+
+-- a letter that is refused is a letter
+pub letter-of : (refused : Refused) (letter : ℕ) → IsRefusable refused
+    → RefusesLetter refused letter → IsCapital letter
+letter-of refused letter only h =
+    elim (or-cases (set.contains refused.stations letter)
+    (set.contains refused.subjects letter) h) [
+      | inl station ↦ only.stations letter station
+      | inr subject ↦ only.subjects letter subject
+    ]
 
 -- ---- the lines of a text
 
@@ -163,6 +198,20 @@ next-is-bad bytes line lines next end =
     next.refused in
     line-is-bad bytes ((line ++ newline ∷ []) ++ next.more) line next.more lines
     status.StateLine next.whole refl next.begins next.short bad refl
+
+-- the line that stands next ends no text of so many channels
+pub end-is-bad : (count : ℕ) (bytes line : List ℕ) (lines : List (List ℕ)) (why : Status)
+    → StandsNext lines line bytes → RefusesEnd count lines line why
+    → RefusesState count bytes why
+end-is-bad count bytes line lines why next refuses = elim refuses [
+  | inl h ↦ inl (subst (RefusesText bytes) (sym h.1) (next-is-bad bytes line lines next h.0))
+  | inr h ↦ inr (
+    begins-as bytes (λ others more. h.0.0 ≡ others) (λ others more. HasNoMore count others → ⊥)
+        (λ others more same. subst (λ s. HasNoMore count s → ⊥) same h.0.2)
+        (next-is-last bytes line lines h.0.0 next h.0.1),
+    h.1,
+  )
+]
 
 -- a line has a 17th byte
 pub line-is-long : (bytes rest line more : List ℕ) (byte : ℕ) (lines : List (List ℕ))

@@ -1,63 +1,86 @@
 -- What selecting answers.
-use Rattle.std.proofs.Common.{◌≡◌, ℕ, Bool, true, false, IsTrue, if◌then◌else◌, List, refl, sym, ap, ◌∙◌, subst, Some}
+use Rattle.std.proofs.Common.{◌≡◌, ◌<◌, ◌≤◌, ℕ, Bool, true, false, not, nat_lt, IsTrue, if◌then◌else◌, List, length, slice_set, refl, sym, ap, ◌∙◌, subst, Some, arith}
+use Rattle.std.proofs.lemmas.Grind.{common_steps}
 use Rattle.nx_fec.specs.air_files.Channels.{channel_number}
 use Rattle.nx_fec.specs.declared.air_files.channel.Channel.{Channel}
-use Rattle.nx_fec.specs.declared.air_files.channel.Channel.TheVariants.{Zero, One, Two}
+use Rattle.nx_copies.specs.Events as events
 use Rattle.nx_copies.specs.Events.{Command}
-use Rattle.nx_receiver.specs.Listener.{then_command}
-use Rattle.nx_handle.specs.Receivers.{HearsGiven, Listening}
+use Rattle.nx_receiver.specs.Receiver.{TakesEvent}
 use Rattle.nx_receiver.specs.declared.command.Command.{Command as TheCommand}
 use Rattle.nx_copies.specs.copies.Shares.{Given, MarkedCopy, Starts}
-use Rattle.nx_handle.specs.Life.{hearing}
-use Rattle.nx_handle.specs.Selecting.{AnswersSelecting, byte_status, command_status}
-use Rattle.nx_handle.specs.Selecting.{selecting_status}
+use Rattle.nx_receiver.specs.Listener.{then_command}
+use Rattle.nx_handle.specs.Life.{HasHeard}
+use Rattle.nx_handle.specs.Places.{all_hear, is_hearing, place_on}
+use Rattle.nx_handle.specs.Receivers.{OneReceiver, content}
+use Rattle.nx_handle.specs.Selecting.{AnswersSelecting, byte_status, command_status, selecting_status}
 use Rattle.nx_handle.specs.Status.{number_of}
-use Rattle.nx_handle.specs.declared.kept.Kept.{Kept}
+use Rattle.nx_handle.specs.declared.places.Place.{Place}
+use Rattle.nx_handle.specs.declared.places.Place.TheVariants.{Hears}
 use Rattle.nx_handle.specs.declared.status.Status.{Status}
-use Rattle.nx_handle.specs.declared.status.Status.TheVariants.{Done, Vital}
+use Rattle.nx_handle.specs.declared.status.Status.TheVariants.{Done, NoChannel, Vital}
+use Rattle.nx_handle.proofs.lemmas.Heard.{command-in}
+use Rattle.nx_handle.proofs.lemmas.Places.{all-set, set-long, within}
 
--- whatever was given before, those that hear stand after the command too
-abbrev pub Takes : Channel → Listening → Listening → Command → Type 0
-Takes on listener after command =
-    (starts : Starts) (given : List Given) (copies : List MarkedCopy)
-    → HearsGiven starts listener given copies
-    → HearsGiven starts after (then_command given on command) copies
+pub selecting-done : (asked : Status) (c : Command) (channel : Channel) (old new : List Place)
+    (r after : OneReceiver) → all_hear old ≡ true → place_on old channel ≡ Some (Hears r)
+    → new ≡ slice_set old (channel_number channel) (Hears after) → asked ≡ Done
+    → TakesEvent content r after (events.command c)
+    → AnswersSelecting asked c (channel_number channel) old new 0
+selecting-done asked c channel old new r after hear at is done takes =
+    let n = channel_number channel in record {
+      cause = sym (ap (λ b. number_of (selecting_status asked b)) hear ∙ ap number_of done);
+      done = λ _. record {
+        on = channel;
+        is = refl;
+        has_channel = within old n (Hears r) at;
+        was = hear;
+        now = ap all_hear is ∙ all-set is_hearing old n (Hears after) hear refl;
+        heard = λ starts given copies h.
+            subst (λ places. HasHeard starts places (then_command given channel c) copies) (sym is)
+            (command-in old channel r after c at takes starts given copies h);
+      };
+      refused = λ no. absurd (no refl);
+      channels = ap length is ∙ set-long old n (Hears after);
+    }
 
-pub selecting-done : (asked : Status) (command : Command) (channel : ℕ) (on : Channel)
-    (old new : Kept) (listener after : Listening) → hearing (Some old) ≡ Some listener
-    → hearing (Some new) ≡ Some after → channel_number on ≡ channel → asked ≡ Done
-    → Takes on listener after command
-    → AnswersSelecting asked command channel (Some old) (Some new) 0
-selecting-done asked command channel on old new listener after was now is done takes = record {
-  cause = sym (ap (λ l. number_of (selecting_status asked l)) was ∙ ap number_of done);
-  done = λ _. record {
-    on = on;
-    is = is;
-    listener = listener;
-    was = was;
-    after = after;
-    now = now;
-    heard = takes;
-  };
-  refused = λ no. absurd (no refl);
+-- a command that isn't done leaves all as it was
+pub selecting-refused : (asked : Status) (c : Command) (channel answer : ℕ) (old new : List Place)
+    → answer ≡ number_of (selecting_status asked (all_hear old)) → (answer ≡ 0 → ⊥) → new ≡ old
+    → AnswersSelecting asked c channel old new answer
+selecting-refused asked c channel answer old new cause fails same = record {
+  cause = cause;
+  done = λ e. absurd (fails e);
+  refused = λ _. same;
+  channels = ap length same;
 }
-
--- on a channel that there is
-on-channel : (on : Channel) (command : TheCommand ℕ)
-    → command_status (channel_number on) command ≡ byte_status command
-on-channel Zero command = refl
-on-channel One command = refl
-on-channel Two command = refl
 
 not-vital : (vital : Bool) → (IsTrue vital → IsTrue false)
     → (if vital then Vital else Done) ≡ Done
 not-vital true spared = let bad = spared refl in cc
 not-vital false spared = refl
 
--- a command for a letter, on a channel that there is, which refuses no vital subject
-pub command-done : (on : Channel) (channel : ℕ) (command : TheCommand ℕ) (vital : Bool)
-    → channel_number on ≡ channel → byte_status command ≡ (if vital then Vital else Done)
-    → (IsTrue vital → IsTrue false) → command_status channel command ≡ Done
-command-done on channel command vital is asked spared =
-    subst (λ n. command_status n command ≡ byte_status command) is (on-channel on command)
-    ∙ asked ∙ not-vital vital spared
+is-vital : (vital : Bool) → IsTrue vital → (if vital then Vital else Done) ≡ Vital
+is-vital true h = refl
+is-vital false h = cc
+
+-- on a channel that there is
+pub on-channel : (channel count : ℕ) (command : TheCommand ℕ) → channel < count
+    → command_status channel count command ≡ byte_status command
+on-channel channel count command lt = grind (arith, common_steps)
+
+pub no-channel : (channel count : ℕ) (command : TheCommand ℕ) → count ≤ channel
+    → command_status channel count command ≡ NoChannel
+no-channel channel count command le = grind (arith, common_steps)
+
+-- a command for a letter, on a channel that there is, which refuses no vital subject; or does
+pub command-done : (channel count : ℕ) (command : TheCommand ℕ) (vital : Bool) → channel < count
+    → byte_status command ≡ (if vital then Vital else Done)
+    → (IsTrue vital → IsTrue false) → command_status channel count command ≡ Done
+command-done channel count command vital lt asked spared =
+    on-channel channel count command lt ∙ asked ∙ not-vital vital spared
+
+pub command-vital : (channel count : ℕ) (command : TheCommand ℕ) (vital : Bool) → channel < count
+    → byte_status command ≡ (if vital then Vital else Done)
+    → IsTrue vital → command_status channel count command ≡ Vital
+command-vital channel count command vital lt asked h =
+    on-channel channel count command lt ∙ asked ∙ is-vital vital h

@@ -7,6 +7,3 @@ pub returns-in_default-clause-signal : goal.returns-in_default-clause-signal
 returns-in_default-clause-signal c = λ signal e.
     let low = subst (λ n. n < 128) e (number-lt signal) in
     let none = c.in_default.ensures.range.1 low in cc
-
-pub returns-in-Some-Alpha-clause-signal : goal.returns-in-Some-Alpha-clause-signal
-returns-in-Some-Alpha-clause-signal c = search rules

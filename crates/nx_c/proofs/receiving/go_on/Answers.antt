@@ -31,9 +31,3 @@ returns-in-Ok-state_text c =
         spelled = c.in-Ok-state_text.ensures.text;
       },
     )
-
-pub returns-in-Err : goal.returns-in-Err
-returns-in-Err c = search rules
-
-pub returns-in-Err-state_text : goal.returns-in-Err-state_text
-returns-in-Err-state_text c = search rules

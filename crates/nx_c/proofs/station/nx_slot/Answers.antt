@@ -9,6 +9,3 @@ returns-in-None c = inr (
   λ capital. subst (λ station. HasNoSlot station c.args.moment) c.in-Some.ensures.given
       (c.in-None.ensures.none refl),
 )
-
-pub returns-in-Some-next_slot : goal.returns-in-Some-next_slot
-returns-in-Some-next_slot c = search rules

@@ -5,7 +5,7 @@ pub returns : goal.returns
 returns c =
     let view = c.in-Some.view in record {
       text = view.text.now;
-      put = c.put_whole.ensures.put;
+      copied = c.copy_whole_out.ensures.copied;
       reads = inl (
         record {
           view = view;
@@ -13,6 +13,6 @@ returns c =
           said = c.told_of.ensures;
           text_is = refl;
         },
-        c.put_whole.ensures.status,
+        c.copy_whole_out.ensures.status,
       );
     }

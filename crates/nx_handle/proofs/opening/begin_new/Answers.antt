@@ -1,19 +1,26 @@
-use Rattle.std.proofs.Common.{refl}
-use Rattle.nx_fec.specs.declared.air_files.channel.Channel.TheVariants.{Zero, One, Two}
-use Rattle.nx_copies.specs.copies.Shares.{all_at_zero, start_on}
-use Rattle.nx_handle.specs.Receivers.{three}
-use Rattle.nx_handle.proofs.lemmas.Receivers.{begun, three-hear}
+use Rattle.std.proofs.Common.{◌∙◌, arith}
+use Rattle.nx_handle.proofs.lemmas.New.{all-new, all-new-hear, new-more}
+use Rattle.nx_handle.proofs.lemmas.Places.{set-long}
 use Rattle.nx_handle.proofs.opening.begin_new.Goals as goal
 
-pub returns : goal.returns
-returns c =
-    let zero = c.begin_new_on.ensures in
-    let one = c.begin_new_on-2.ensures in
-    let two = c.begin_new_on-3.ensures in record {
-      listener = three zero.0 one.0 two.0;
-      hears = three-hear _ _ _ zero.0 one.0 two.0 zero.1 one.1 two.1;
-      heard = begun all_at_zero zero.0 one.0 two.0
-          (zero.2 (start_on all_at_zero Zero) refl refl refl)
-          (one.2 (start_on all_at_zero One) refl refl refl)
-          (two.2 (start_on all_at_zero Two) refl refl refl);
+pub loop-at-preserved : goal.loop-at-preserved
+loop-at-preserved c =
+    let b = c.begin_new_at.ensures in
+    let inv = c.loop-at.invariant in record {
+      channels = set-long c.loop-at.places c.loop-at.at c.begin_new_at.new.place ∙ inv.channels;
+      begun = new-more c.loop-at.places c.loop-at.at c.begin_new_at.new.place b.0
+          (omega (arith, c.loop-at-test.true, inv.channels)) b.1 b.2 inv.begun;
     }
+
+pub returns-clause-begun : goal.returns-clause-begun
+returns-clause-begun c =
+    all-new c.loop-at.places
+    (omega (arith, c.requires.some, c.loop-at.invariant.channels))
+    (λ k lt. c.loop-at.invariant.begun k
+    (omega (arith, lt, c.loop-at-test.false, c.loop-at.invariant.channels)))
+
+pub returns-clause-hear : goal.returns-clause-hear
+returns-clause-hear c =
+    all-new-hear c.loop-at.places
+    (λ k lt. c.loop-at.invariant.begun k
+    (omega (arith, lt, c.loop-at-test.false, c.loop-at.invariant.channels)))

@@ -4,7 +4,7 @@ use Rattle.nx_copies.specs.copies.FoundCopies.{headed_copy}
 use Rattle.nx_copies.specs.copies.Log.{IsEntry}
 use Rattle.nx_copies.specs.copies.Shares.{marked}
 use Rattle.nx_receiver.specs.Receiver.{headed_list, text_of}
-use Rattle.nx_handle.specs.CallerRoom.{IsPut, room}
+use Rattle.nx_handle.specs.CallerRoom.{IsCopiedOut, room}
 use Rattle.nx_handle.specs.Hearing.{elements_of}
 use Rattle.nx_handle.proofs.lemmas.Hearing.{has-bytes, hears-silent, hears-spelled, next-piece, none-before-piece, piece-within, silent-more}
 use Rattle.nx_handle.proofs.pieces.hear_all.Goals as goal
@@ -18,13 +18,14 @@ returns-in-Some c =
     let m = c.min-end.result - h in
     let head = c.in-Some.head in
     let text = text_of call.new.self in
-    let out = c.put_entry.ensures in
+    let out = c.copy_entry_out.ensures in
     let some : 0 < length (take n (drop 0 packed)) =
     omega (arith, length-take-le n packed few, call.ensures.some (ap is_some c.in-Some.is)) in
     record {
       text = out.bytes;
-      put = subst (λ l. IsPut out.bytes (room l c.put_entry.new.space c.put_entry.new.written))
-          c.loop-heard.invariant.same_log out.put;
+      copied = subst (λ l. IsCopiedOut out.bytes
+          (room l c.copy_entry_out.new.space c.copy_entry_out.new.written))
+          c.loop-heard.invariant.same_log out.copied;
       short = out.short;
       within = piece-within xs h n m packed c.pack-packed.ensures few c.loop-heard.invariant.within;
       hears = hears-spelled c.args.channel c.args.receiver.now c.loop-heard.receiver call.new.self
@@ -62,8 +63,8 @@ loop-heard-preserved c =
 pub returns : goal.returns
 returns c = record {
   text = [];
-  put = subst (λ l. IsPut [] (room l c.put.new.space c.put.new.written))
-      c.loop-heard.invariant.same_log c.put.ensures;
+  copied = subst (λ l. IsCopiedOut [] (room l c.copy_out.new.space c.copy_out.new.written))
+      c.loop-heard.invariant.same_log c.copy_out.ensures;
   short = omega arith;
   within = c.loop-heard.invariant.within;
   hears = hears-silent c.args.channel c.args.receiver.now c.loop-heard.receiver _

@@ -1,20 +1,16 @@
-use Rattle.std.proofs.Common.{◌≡◌, sym, subst, None, Some}
-use Rattle.nx_handle.specs.Saving.{AnswersOpeningFrom}
-use Rattle.nx_handle.proofs.lemmas.Saving.{is-none, opens-from-it, opens-not}
+use Rattle.std.proofs.Common.{◌∙◌, sym}
+use Rattle.nx_handle.proofs.lemmas.Saving.{opens-from-it, opens-not}
 use Rattle.nx_handle.proofs.saving.open_from.Goals as goal
 
 pub returns-in-Ok : goal.returns-in-Ok
 returns-in-Ok c =
-    let none : c.args.slot.now ≡ None =
-    is-none c.args.slot.now c.is_some.result c.is_some.ensures c.if-is_some.false in
-    let new = Some c.begin_all.new.kept in
-    subst (λ o. AnswersOpeningFrom c.args.state.now o new 0) (sym none)
-    (opens-from-it c.args.state.now new c.in-Ok.ensures.ok)
+    opens-from-it c.args.state.now c.args.places.now c.begin_all.new.places
+    (sym c.are_closed.ensures ∙ c.if-not-are_closed.false) c.in-Ok.ensures.ok
+    c.begin_all.ensures.channels
 
 pub returns-in-Err : goal.returns-in-Err
 returns-in-Err c =
-    let none : c.args.slot.now ≡ None =
-    is-none c.args.slot.now c.is_some.result c.is_some.ensures c.if-is_some.false in
-    subst (λ o. AnswersOpeningFrom c.args.state.now o None c.number-in-Err.result) (sym none)
-    (opens-not c.args.state.now c.in-Err.status c.number-in-Err.result c.in-Err.ensures.err
-    c.number-in-Err.ensures)
+    opens-not c.args.state.now c.args.places.now c.close_all.new.places c.in-Err.status
+    c.number-in-Err.result (sym c.are_closed.ensures ∙ c.if-not-are_closed.false)
+    c.in-Err.ensures.err c.number-in-Err.ensures c.close_all.ensures.closed
+    (c.close_all.ensures.channels ∙ c.begin_all.ensures.channels)

@@ -1,5 +1,0 @@
-use Rattle.std.proofs.Common.{rules}
-use Rattle.nx_c.proofs.codes.nx_encode.Goals as goal
-
-pub returns : goal.returns
-returns c = search rules
