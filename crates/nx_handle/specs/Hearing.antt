@@ -1,17 +1,13 @@
 -- What hearing elements answers (this profile).
-use Rattle.std.specs.Prelude.{◌≡◌, ◌≢◌, ℕ, ◌<◌, ◌≤◌, ◌==◌, nat_lt, Bool, true, false, not, if◌then◌else◌, List, []}
+use Rattle.std.specs.Prelude.{◌≡◌, ◌≢◌, ℕ, ◌<◌, ◌≤◌, ◌==◌, nat_lt, Bool, true, false, not, List, []}
 use Rattle.std.specs.Prelude.{◌++◌, length, map, take}
 use Rattle.std.specs.List.{list_all}
 use Rattle.nx_fec.specs.air_files.Channels.{channel_number}
 use Rattle.nx_fec.specs.declared.air_files.channel.Channel.{Channel}
-use Rattle.nx_copies.specs.Events as events
-use Rattle.nx_copies.specs.Events.{Event, Start}
 use Rattle.nx_copies.specs.copies.FoundCopies.{TaggedCopy}
 use Rattle.nx_copies.specs.copies.InTurn.{PrintsInTurn}
 use Rattle.nx_receiver.specs.Listener.{then_elements}
-use Rattle.nx_receiver.specs.Receiver.{HandsOutNoneBefore, Stands}
-use Rattle.nx_handle.specs.Receivers.{OneReceiver, content}
-use Rattle.nx_copies.specs.copies.Log.{IsEntry, IsLog}
+use Rattle.nx_copies.specs.copies.Log.{IsLog}
 use Rattle.nx_copies.specs.copies.Shares.{Given, MarkedCopy, Starts, marked}
 use Rattle.nx_handle.specs.Life.{HasHeard}
 use Rattle.nx_handle.specs.Places.{all_hear}
@@ -35,13 +31,6 @@ elements_of bytes = map element_of bytes
 abbrev pub longest_entry : ℕ
 longest_entry = 4163
 
--- the entry of a copy is copied into the room
-pub record CopiesEntryOut (copy : MarkedCopy) (log : Room) : Type 0 where
-  pub bytes : List ℕ
-  pub spelled : IsEntry copy bytes
-  pub short : length bytes ≤ longest_entry
-  pub copied : IsCopiedOut bytes log
-
 -- the status of a request to hear elements of a channel, of so many, with room for so many bytes,
 -- as many as an entry can need
 abbrev pub request_status : ℕ → ℕ → List ℕ → ℕ → Status
@@ -55,32 +44,6 @@ request_status channel count bytes capacity =
 abbrev pub hearing_status : Bool → ℕ → ℕ → List ℕ → ℕ → Status
 hearing_status false channel count bytes capacity = status.Closed
 hearing_status true channel count bytes capacity = request_status channel count bytes capacity
-
--- The receiver of a channel hears elements, whatever it was given before, and this is the log of
--- the copies that they print: none, or one, which the last of them ends. No element before the last
--- prints anything.
-pub record HearsOn (channel : Channel) (old new : OneReceiver) (bits : List Bool) (text : List ℕ)
-    : Type 0 where
-  pub next : List TaggedCopy
-  pub few : length next ≤ 1
-  pub behind : length next ≤ length bits
-  pub spelled : IsLog (map (marked channel) next) text
-  pub stands : (start : Start) (history : List Event) (log : List TaggedCopy)
-      → Stands content start old history log
-      → Stands content start new (history ++ events.elements bits) (log ++ next)
-  pub first : HandsOutNoneBefore content old bits (length bits)
-
--- So many of the elements of these bytes are heard so, and the entry of the copy that they print is
--- copied into the room; all, where nothing is printed.
-pub record HearsAndCopiesOut (Hears : List Bool → List ℕ → Type 0) (bytes : List ℕ) (heard : ℕ)
-    (log : Room)
-    : Type 0 where
-  pub text : List ℕ
-  pub copied : IsCopiedOut text log
-  pub short : length text ≤ longest_entry
-  pub within : heard ≤ length bytes
-  pub hears : Hears (elements_of (take heard bytes)) text
-  pub all : text ≡ [] → heard ≡ length bytes
 
 -- Elements of a channel are heard, and this is the log of the copies that they print: none, or one,
 -- which the last of them ends. Whatever was given before, and however much of these elements at

@@ -1,10 +1,8 @@
 -- What opening a receiver answers, and setting its moment (this profile).
-use Rattle.std.specs.Prelude.{◌≡◌, ◌≢◌, ℕ, nat_lt, Bool, true, false, if◌then◌else◌, List, [], ◌∷◌, length}
+use Rattle.std.specs.Prelude.{◌≡◌, ◌≢◌, ℕ, nat_lt, Bool, true, false, List, [], ◌∷◌, length}
 use Rattle.nx_envelope.specs.Moment.{last_moment}
 use Rattle.nx_receiver.specs.Listener.{moment_in_force, then_moment}
 use Rattle.nx_copies.specs.copies.Shares.{Given, MarkedCopy, Starts, all_at_zero, to_all}
-use Rattle.nx_receiver.specs.declared.fault.MomentFault.{MomentFault}
-use Rattle.nx_receiver.specs.declared.fault.MomentFault.TheVariants as moment
 use Rattle.nx_handle.specs.Life.{HasHeard}
 use Rattle.nx_handle.specs.Places.{all_closed}
 use Rattle.nx_handle.specs.Status.{number_of}
@@ -24,11 +22,6 @@ pub record AnswersOpening (moment : ℕ) (old new : List Place) (answer : ℕ) :
   pub done : answer ≡ 0 → HasHeard all_at_zero new (to_all moment ∷ []) []
   pub refused : answer ≢ 0 → new ≡ old
   pub channels : length new ≡ length old
-
--- the status that the fault of a moment tells
-abbrev pub moment_told : MomentFault → Status
-moment_told (moment.Range given) = status.MomentRange
-moment_told (moment.Back last given) = status.MomentBack
 
 -- the status of setting a moment, where this one is in force
 abbrev pub moment_status : ℕ → ℕ → Status

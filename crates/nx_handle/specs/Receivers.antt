@@ -21,9 +21,6 @@ pub record Listening : Type 0 where
   pub on_1 : OneReceiver
   pub on_2 : OneReceiver
 
-abbrev pub three : OneReceiver → OneReceiver → OneReceiver → Listening
-three on_0 on_1 on_2 = record { on_0 = on_0; on_1 = on_1; on_2 = on_2 }
-
 -- the receiver of a channel, of three
 abbrev pub one_on : Listening → Channel → OneReceiver
 one_on listening Zero = listening.on_0

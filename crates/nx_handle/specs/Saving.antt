@@ -1,21 +1,18 @@
 -- What saving a receiver answers, and opening one from what is saved (this profile).
-use Rattle.std.specs.Prelude.{◌≡◌, ◌≢◌, ◌⊎◌, ◌||◌, ℕ, ◌+◌, ◌*◌, ◌<◌, ◌≤◌, Bool, true, false, List, [], ◌∷◌}
-use Rattle.std.specs.Prelude.{◌++◌, length, IsTrue, Result, Ok, Err, codes, take}
+use Rattle.std.specs.Prelude.{◌≡◌, ◌⊎◌, ◌||◌, ℕ, ◌+◌, ◌*◌, ◌≤◌, Bool, true, false, List, []}
+use Rattle.std.specs.Prelude.{length, IsTrue}
 use Rattle.std.specs.FinSet as set
-use Rattle.nx_code.specs.Reading.{capitals, newline}
+use Rattle.nx_code.specs.Reading.{capitals}
 use Rattle.nx_fec.specs.Transfers.{whole_input}
 use Rattle.nx_fec.specs.air_files.Channels.{channel_number}
 use Rattle.nx_fec.specs.declared.air_files.channel.Channel.{Channel}
 use Rattle.nx_memory.specs.Memory.{most_entries}
 use Rattle.nx_memory.specs.Saved.{AreSavedStates, SavedState, SavedStates, nothing_saved}
 use Rattle.nx_memory.specs.Selection.{Refused}
-use Rattle.nx_memory.specs.declared.memories.entry.MemoryEntry.{MemoryEntry}
-use Rattle.nx_memory.specs.StateText.{BeginsNoText, BeginsText, IsShortLine, IsStateText}
 use Rattle.nx_memory.specs.StateText.{longest_saved_line}
 use Rattle.nx_receiver.specs.air_file_runs.Chain.{Leaves}
-use Rattle.nx_copies.specs.Events.{Start}
 use Rattle.nx_copies.specs.copies.Shares.{Given, MarkedCopy, Starts, saved_of, share, start_on, starts_from}
-use Rattle.nx_receiver.specs.air_file_runs.State.{BeginsWith, ExplainsState, ended_lines, state_bytes}
+use Rattle.nx_receiver.specs.air_file_runs.State.{BeginsWith, ExplainsState, state_bytes}
 use Rattle.nx_receiver.specs.declared.air_file_runs.state_fault.StateFault.TheVariants as state
 use Rattle.nx_handle.specs.Life.{HasHeard}
 use Rattle.nx_handle.specs.Places.{HasChannel, all_closed, all_hear}
@@ -58,27 +55,6 @@ pub record AnswersSaving (old new : List Place) (state : Room) (answer : ℕ) : 
   pub saves : SavesBy (all_hear old) old text (length state.old) answer
   pub unchanged : new ≡ old
 
--- So many bytes has the first line of these, without its line feed. Or they begin with no line of a
--- state, and the status says why: it has a 17th byte, or no line feed.
-abbrev pub IsFirstLine : List ℕ → Result ℕ Status → Type 0
-IsFirstLine bytes (Ok count) =
-    (count < length bytes) × IsShortLine (take count bytes)
-    × ((more : List ℕ) × (bytes ≡ (take count bytes ++ newline ∷ []) ++ more))
-IsFirstLine bytes (Err why) =
-    ((why ≡ status.StateLine) × ((line : List ℕ) × (byte : ℕ) × (more : List ℕ)
-    × IsShortLine line × (length line ≡ longest_saved_line) × (byte ≢ newline)
-    × (bytes ≡ line ++ byte ∷ more)))
-    ⊎ ((why ≡ status.StateCut) × IsShortLine bytes)
-
--- The bytes are these lines, with which a text of a state begins, this line, and what follows; and
--- no text goes on with the line, unless it is the last one of all texts.
-pub record StandsNext (lines : List (List ℕ)) (line bytes : List ℕ) : Type 0 where
-  pub more : List ℕ
-  pub begins : BeginsText lines
-  pub short : IsShortLine line
-  pub whole : bytes ≡ ended_lines lines ++ ((line ++ newline ∷ []) ++ more)
-  pub refused : line ≢ codes "END" → BeginsNoText (lines ++ line ∷ [])
-
 -- a station or a subject with this letter is refused
 abbrev pub RefusesLetter : Refused → ℕ → Type 0
 RefusesLetter refused letter =
@@ -112,19 +88,6 @@ abbrev pub RefusesState : ℕ → List ℕ → Status → Type 0
 RefusesState count bytes why =
     RefusesText bytes why
     ⊎ (BeginsWith bytes (λ states more. HasNoMore count states → ⊥) × (why ≡ status.NoChannel))
-
--- The line can't be the last one of a state behind these lines; or it is, and the state has more
--- than so many channels. The status says which.
-abbrev pub RefusesEnd : ℕ → List (List ℕ) → List ℕ → Status → Type 0
-RefusesEnd count lines last why =
-    ((last ≡ codes "END" → BeginsNoText (lines ++ last ∷ [])) × (why ≡ status.StateLine))
-    ⊎ (((states : SavedStates) × IsStateText (lines ++ last ∷ []) states
-    × (HasNoMore count states → ⊥)) × (why ≡ status.NoChannel))
-
--- a start with these entries, this moment, and what is refused
-abbrev pub start_with : List MemoryEntry → ℕ → Refused → Start
-start_with entries moment refused =
-    record { entries = entries; moment = moment; refused = refused }
 
 -- These bytes begin with a state that has nothing of a channel which the receiver doesn't have. The
 -- receiver starts with it, and has heard nothing. Or the status says why they don't, and the

@@ -1,2 +1,6 @@
 -- Definitions that only private contracts and proofs cite.
 pub mod Moments
+pub mod Hearing
+pub mod Opening
+pub mod Receivers
+pub mod Saving

@@ -5,7 +5,7 @@ ghost use Rattle.nx_envelope.specs.Copies.{errors_of};
 ghost use Rattle.nx_envelope.specs.Moment.{last_moment};
 ghost use Rattle.nx_copies.specs.copies.FoundCopies.{headed_copy};
 ghost use Rattle.nx_copies.specs.copies.Shares.{marked};
-ghost use Rattle.nx_handle.specs.Hearing.{CopiesEntryOut};
+ghost use Rattle.nx_handle.specs.private.Hearing.{CopiesEntryOut};
 ghost use Rattle.nx_handle.specs.Status.{number_of};
 ghost use Rattle.nx_handle.specs.CallerRoom.{IsCopiedOut, after_copying_out, room};
 ghost use Rattle.nx_handle.specs.declared.status.Status.TheVariants.{Done};

@@ -5,7 +5,7 @@ ghost use Rattle.nx_copies.specs.copies.FoundCopies.{TaggedCopy};
 ghost use Rattle.nx_copies.specs.copies.Shares.{MarkedCopy, marked};
 ghost use Rattle.nx_handle.specs.Closing.{AnswersClosing};
 ghost use Rattle.nx_handle.specs.Life.{EndPrints, EndsWith};
-ghost use Rattle.nx_handle.specs.Hearing.{CopiesEntryOut};
+ghost use Rattle.nx_handle.specs.private.Hearing.{CopiesEntryOut};
 ghost use Rattle.nx_handle.specs.Places.{all_closed, all_hear};
 ghost use Rattle.nx_handle.specs.CallerRoom.{room};
 ghost use Rattle.nx_handle.specs.declared.places.Place.TheVariants.{Ended};

@@ -3,7 +3,8 @@
 ghost use Rattle.std.specs.Prelude.{◌≡◌, ◌≢◌, ◌<◌, ◌≤◌, [], length, IfErr, IfOk, OnOk, true};
 ghost use Rattle.std.specs.List.{list_all};
 ghost use Rattle.nx_fec.specs.air_files.Channels.{channel_number};
-ghost use Rattle.nx_handle.specs.Hearing.{AnswersHearing, HearsAndCopiesOut, HearsOn, is_element, request_status};
+ghost use Rattle.nx_handle.specs.Hearing.{AnswersHearing, is_element, request_status};
+ghost use Rattle.nx_handle.specs.private.Hearing.{HearsAndCopiesOut, HearsOn};
 ghost use Rattle.nx_handle.specs.Places.{is_hearing};
 ghost use Rattle.nx_handle.specs.Receivers.{OneReceiver};
 ghost use Rattle.nx_handle.specs.CallerRoom.{IsCopiedOut, room};

@@ -3,7 +3,8 @@
 ghost use Rattle.std.specs.Prelude.{◌≡◌, ◌≤◌, length};
 ghost use Rattle.nx_fec.specs.air_files.AirFile.{element_digit};
 ghost use Rattle.nx_handle.specs.CallerRoom.{room};
-ghost use Rattle.nx_handle.specs.Hearing.{HearsAndCopiesOut, HearsOn, element_of, elements_of};
+ghost use Rattle.nx_handle.specs.Hearing.{element_of, elements_of};
+ghost use Rattle.nx_handle.specs.private.Hearing.{HearsAndCopiesOut, HearsOn};
 
 use crate::caller_room::{copy_entry_out, copy_out};
 use nx_fec::{Channel, PackedElements};

@@ -12,10 +12,12 @@ use Rattle.nx_copies.proofs.lemmas.printing.Logged.{bits_of-append}
 use Rattle.nx_receiver.specs.Listener.{then_command, then_elements, then_moment}
 use Rattle.nx_receiver.specs.Receiver.{Stands, TakesEvent}
 use Rattle.nx_receiver.proofs.lemmas.listening.Listener.{on-all}
-use Rattle.nx_handle.specs.Hearing.{HearsElements, HearsOn}
+use Rattle.nx_handle.specs.Hearing.{HearsElements}
+use Rattle.nx_handle.specs.private.Hearing.{HearsOn}
 use Rattle.nx_handle.specs.Life.{HasHeard}
 use Rattle.nx_handle.specs.Places.{HasChannel, place_on}
-use Rattle.nx_handle.specs.Receivers.{Listening, OneReceiver, content, one_on, three}
+use Rattle.nx_handle.specs.Receivers.{Listening, OneReceiver, content, one_on}
+use Rattle.nx_handle.specs.private.Receivers.{three}
 use Rattle.nx_handle.specs.private.Moments.{HasTaken, MomentsTaken}
 use Rattle.nx_handle.specs.declared.places.Place.{Place}
 use Rattle.nx_handle.specs.declared.places.Place.TheVariants.{Hears}

@@ -13,7 +13,8 @@ use Rattle.nx_copies.specs.declared.entry.EntryHead.{EntryHead}
 use Rattle.nx_copies.proofs.lemmas.printing.Log.{no-log, one-log}
 use Rattle.nx_receiver.specs.Receiver.{HandsOutNoneBefore, Stands, headed_list}
 use Rattle.std.specs.Prelude.{Option, Some}
-use Rattle.nx_handle.specs.Hearing.{HearsOn, element_of, elements_of}
+use Rattle.nx_handle.specs.Hearing.{element_of, elements_of}
+use Rattle.nx_handle.specs.private.Hearing.{HearsOn}
 use Rattle.nx_handle.specs.Receivers.{OneReceiver, content}
 
 -- a receiver hears elements, and hands out these copies

@@ -12,7 +12,8 @@ use Rattle.nx_receiver.specs.Moments.{Refuses}
 use Rattle.nx_receiver.specs.declared.fault.MomentFault.{MomentFault}
 use Rattle.nx_receiver.specs.declared.fault.MomentFault.TheVariants.{Back, Range}
 use Rattle.nx_handle.specs.Life.{HasHeard}
-use Rattle.nx_handle.specs.Opening.{AnswersMoment, AnswersOpening, SetsMoment, moment_status, moment_told, opening_status}
+use Rattle.nx_handle.specs.Opening.{AnswersMoment, AnswersOpening, SetsMoment, moment_status, opening_status}
+use Rattle.nx_handle.specs.private.Opening.{moment_told}
 use Rattle.nx_handle.specs.Places.{HasChannel, all_closed, all_hear, place_on}
 use Rattle.nx_handle.specs.Receivers.{Listening, OneReceiver, one_on}
 use Rattle.nx_handle.specs.Status.{number_of}

@@ -18,8 +18,9 @@ use Rattle.nx_receiver.specs.private.PlainReceiver.{plain-receiver}
 use Rattle.nx_receiver.proofs.lemmas.listening.Listener.{commanded, heard-first, hears-more}
 use Rattle.nx_receiver.proofs.lemmas.listening.Listener.{none-before, none-given, on-all, set-all}
 use Rattle.nx_copies.specs.copies.InTurn.{PrintsInTurn}
-use Rattle.nx_handle.specs.Hearing.{HearsOn}
-use Rattle.nx_handle.specs.Receivers.{HearsGiven, Listening, OneReceiver, content, counted, one_on, three}
+use Rattle.nx_handle.specs.private.Hearing.{HearsOn}
+use Rattle.nx_handle.specs.Receivers.{HearsGiven, Listening, OneReceiver, content, counted, one_on}
+use Rattle.nx_handle.specs.private.Receivers.{three}
 
 -- a listener of these receivers, which counted so many elements and entries
 abbrev pub with_counts : Listening → ℕ → ℕ → ListeningOver OneReceiver

@@ -13,7 +13,8 @@ use Rattle.nx_code.specs.Reading.{IsCapital}
 use Rattle.nx_memory.specs.Selection.{IsRefusable, Refused}
 use Rattle.nx_handle.specs.Life.{HasHeard}
 use Rattle.nx_handle.specs.Places.{all_closed}
-use Rattle.nx_handle.specs.Saving.{AnswersOpeningFrom, HasNoMore, HasNothing, IsFirstLine, OpensFromBy, RefusesEnd, RefusesLetter, RefusesState, RefusesText, StandsNext}
+use Rattle.nx_handle.specs.Saving.{AnswersOpeningFrom, HasNoMore, HasNothing, OpensFromBy, RefusesLetter, RefusesState, RefusesText}
+use Rattle.nx_handle.specs.private.Saving.{IsFirstLine, RefusesEnd, StandsNext}
 use Rattle.nx_handle.specs.Status.{number_of}
 use Rattle.std.specs.FinSet as set
 use Rattle.nx_handle.specs.declared.places.Place.{Place}

@@ -5,7 +5,8 @@ use Rattle.nx_envelope.specs.Moment.{last_moment}
 use Rattle.nx_receiver.specs.Moments.{Refuses}
 use Rattle.nx_receiver.specs.declared.fault.MomentFault.{MomentFault}
 use Rattle.nx_receiver.specs.declared.fault.MomentFault.TheVariants.{Back, Range}
-use Rattle.nx_handle.specs.Opening.{moment_status, moment_told}
+use Rattle.nx_handle.specs.Opening.{moment_status}
+use Rattle.nx_handle.specs.private.Opening.{moment_told}
 use Rattle.nx_handle.specs.Status.{number_of}
 
 pub moment-done : (last moment : ℕ) → last ≤ moment → moment ≤ last_moment

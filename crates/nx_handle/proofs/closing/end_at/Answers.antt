@@ -4,7 +4,7 @@ use Rattle.nx_copies.specs.copies.Log.{PrintsToEnd}
 use Rattle.nx_copies.specs.copies.Shares.{marked}
 use Rattle.nx_receiver.specs.Receiver.{headed_list, text_of}
 use Rattle.nx_handle.specs.CallerRoom.{room}
-use Rattle.nx_handle.specs.Hearing.{CopiesEntryOut}
+use Rattle.nx_handle.specs.private.Hearing.{CopiesEntryOut}
 use Rattle.nx_handle.specs.Life.{EndPrints}
 use Rattle.nx_handle.proofs.lemmas.Closing.{not-hearing}
 use Rattle.nx_handle.proofs.closing.end_at.Goals as goal

@@ -3,7 +3,7 @@ use Rattle.std.proofs.lemmas.Bool.{cases_lt}
 use Rattle.nx_fec.specs.air_files.Channels.{channel_number}
 use Rattle.nx_copies.specs.copies.Shares.{marked}
 use Rattle.nx_handle.specs.CallerRoom.{room}
-use Rattle.nx_handle.specs.Hearing.{CopiesEntryOut}
+use Rattle.nx_handle.specs.private.Hearing.{CopiesEntryOut}
 use Rattle.nx_handle.specs.Life.{EndsWith}
 use Rattle.nx_handle.specs.Places.{is_closed, is_hearing}
 use Rattle.nx_handle.specs.declared.places.Place.TheVariants.{Ended}

@@ -1,7 +1,8 @@
 use Rattle.std.proofs.Common.{◌≡◌, [], ap}
 use Rattle.nx_copies.specs.Events.{Start}
 use Rattle.nx_copies.specs.copies.Shares.{start_on, starts_from}
-use Rattle.nx_handle.specs.Saving.{HasNoMore, start_with}
+use Rattle.nx_handle.specs.Saving.{HasNoMore}
+use Rattle.nx_handle.specs.private.Saving.{start_with}
 use Rattle.nx_handle.proofs.lemmas.Begun.{BeginsIn}
 use Rattle.nx_handle.proofs.lemmas.Saving.{begins-as}
 use Rattle.nx_handle.proofs.saving.begin_from.Goals as goal

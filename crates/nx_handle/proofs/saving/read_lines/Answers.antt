@@ -3,7 +3,7 @@ use Rattle.std.proofs.lemmas.List.{length-drop, length-take-le}
 use Rattle.nx_memory.specs.StateText.{BeginsNoText, BeginsText}
 use Rattle.nx_memory.proofs.lemmas.StateTexts.{new_begins}
 use Rattle.nx_receiver.specs.air_file_runs.State.{ended_lines}
-use Rattle.nx_handle.specs.Saving.{StandsNext}
+use Rattle.nx_handle.specs.private.Saving.{StandsNext}
 use Rattle.nx_handle.proofs.lemmas.Saving.{first-fails, line-is, next-whole, rest-is}
 use Rattle.nx_handle.proofs.saving.read_lines.Goals as goal
 
