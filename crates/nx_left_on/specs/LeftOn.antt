@@ -6,7 +6,7 @@ use Rattle.nx_envelope.specs.Identity.{same_identity}
 use Rattle.nx_envelope.specs.Message.{MessageView}
 use Rattle.nx_envelope.specs.declared.identity.Identity.{Identity}
 use Rattle.nx_fec.specs.declared.air_files.channel.Channel.{Channel}
-use Rattle.nx_log.specs.Logged.{kept_entries}
+use Rattle.nx_log.specs.Logged.{memory_entries}
 use Rattle.nx_memory.specs.Memory.{most_entries, seconds_known}
 use Rattle.nx_memory.specs.Selection.{admits}
 use Rattle.nx_memory.specs.declared.memories.entry.MemoryEntry.{MemoryEntry}
@@ -86,7 +86,7 @@ known_at {channel} {watches} at = entries_after (at.watch.starts.entries channel
 abbrev pub made_before : {channel : Channel} {watches : List Watch} → JudgedCopy channel watches
     → List MemoryEntry
 made_before {channel} {watches} at =
-    kept_entries (copies_on channel (all_put at.before))
+    memory_entries (copies_on channel (all_put at.before))
     ++ entries_made (at.watch.starts.entries channel) at.earlier
 
 -- at the first copy of the identity no entry of it is live

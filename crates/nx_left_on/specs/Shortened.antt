@@ -5,7 +5,7 @@ use Rattle.std.specs.List.Sorted.{IsNonDecreasingBy}
 use Rattle.nx_envelope.specs.Moment.{last_moment}
 use Rattle.nx_fec.specs.air_files.AirFile.{Line}
 use Rattle.nx_fec.specs.declared.air_files.channel.Channel.{Channel}
-use Rattle.nx_log.specs.Logged.{kept_entries, remembered_on}
+use Rattle.nx_log.specs.Logged.{memory_entries, remembered_on}
 use Rattle.nx_log.specs.declared.queries.query.Query.{Query}
 use Rattle.nx_memory.specs.Memory.{seconds_known}
 use Rattle.nx_memory.specs.declared.memories.entry.MemoryEntry.{MemoryEntry}
@@ -47,4 +47,4 @@ pub record AsksSince (moment : ℕ) (query : Query) : Type 0 where
 abbrev pub AreInOrder : List MarkedCopy → Type 0
 AreInOrder entries =
     (channel : Channel)
-    → IsNonDecreasingBy (λ entry. entry.moment) (kept_entries (copies_on channel entries))
+    → IsNonDecreasingBy (λ entry. entry.moment) (memory_entries (copies_on channel entries))

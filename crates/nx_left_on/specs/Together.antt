@@ -7,7 +7,7 @@ use Rattle.nx_combine.specs.CopyPositions.{ended_placed, placed_to_end}
 use Rattle.nx_envelope.specs.Identity.{same_identity}
 use Rattle.nx_envelope.specs.Message.{MessageView}
 use Rattle.nx_fec.specs.declared.air_files.channel.Channel.{Channel}
-use Rattle.nx_log.specs.Logged.{kept_entries}
+use Rattle.nx_log.specs.Logged.{memory_entries}
 use Rattle.nx_memory.specs.Memory.{most_entries, seconds_known}
 use Rattle.nx_memory.specs.declared.memories.entry.MemoryEntry.{MemoryEntry}
 use Rattle.nx_copies.specs.copies.FoundCopies.{TaggedCopy}
@@ -31,7 +31,7 @@ pub record StandsLast (channel : Channel) (log : List MarkedCopy) (entry : Memor
   where
     pub front : List MemoryEntry
     pub behind : List MemoryEntry
-    pub whole : kept_entries (copies_on channel log) ≡ front ++ entry ∷ behind
+    pub whole : memory_entries (copies_on channel log) ≡ front ++ entry ∷ behind
     pub others : All (λ other. same_identity entry.identity other.identity ≡ false) behind
     pub late : All (λ other. entry.moment ≤ other.moment) behind
 
@@ -48,7 +48,7 @@ pub record StandsLastOf (channel : Channel) (log : List MarkedCopy) (after : Lis
   pub not_again : ClocksAreNear channel log after → (earlier later : List TaggedCopy)
       (copy : TaggedCopy) → copies_on channel (all_put after) ≡ earlier ++ copy ∷ later
       → copy.identity ≡ message.identity → copies_of message.identity earlier ≡ []
-      → IsOver entry (length last.behind + length (kept_entries earlier)) copy
+      → IsOver entry (length last.behind + length (memory_entries earlier)) copy
 
 -- A message that is heard together within a watch stands whole among what it put behind these
 -- entries. Where the watch answered, it is whole once among all of that, and its entry stands last

@@ -13,7 +13,7 @@ ghost use Rattle.nx_envelope.specs.declared.identity.Identity.{Identity};
 ghost use Rattle.nx_fec.specs.air_files.AirFile.{Line};
 ghost use Rattle.nx_fec.specs.declared.air_files.channel.Channel.{Channel};
 ghost use Rattle.nx_fec.specs.declared.air_files.channel.Channel.TheVariants.{Zero};
-ghost use Rattle.nx_log.specs.Logged.{kept_entries};
+ghost use Rattle.nx_log.specs.Logged.{memory_entries};
 ghost use Rattle.nx_memory.specs.declared.memories.entry.MemoryEntry.{MemoryEntry};
 ghost use Rattle.nx_promises.specs.examples.Together.{twice_parts};
 ghost use Rattle.nx_promises.specs.laws.Together.{IsHeardTogether, IsPrintedWholeOnce, IsThroughWith, behind_digit};
@@ -126,7 +126,7 @@ pub fn a_message_that_stands_there_is_not_put_again()
         → (stands : StandsLast channel log entry)
         → copies_on channel (all_put watches) ≡ earlier ++ copy ∷ later
         → copy.identity ≡ identity → copies_of identity earlier ≡ []
-        → IsOver entry (length stands.behind + length (kept_entries earlier)) copy }
+        → IsOver entry (length stands.behind + length (memory_entries earlier)) copy }
 {}
 
 /// What it is for a message to be kept whole. Where the watch answered, the message is whole once
@@ -155,7 +155,7 @@ pub fn a_message_that_is_kept_whole_is_not_put_again()
         × (ClocksAreNear channel (log ++ watch.put) after → (earlier later : List TaggedCopy)
         (copy : TaggedCopy) → copies_on channel (all_put after) ≡ earlier ++ copy ∷ later
         → copy.identity ≡ message.identity → copies_of message.identity earlier ≡ []
-        → IsOver entry (length last.behind + length (kept_entries earlier)) copy) }
+        → IsOver entry (length last.behind + length (memory_entries earlier)) copy) }
     ensures surely { (log : List MarkedCopy) (watch : Watch) (after : List Watch)
         (channel : Channel) (parts : List Part) (message : MessageView) (numbers : List ℕ)
         → IsKeptWhole log watch after channel parts message numbers

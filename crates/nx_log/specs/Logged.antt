@@ -37,13 +37,13 @@ pub record IsLogOfLogged (entries : List MarkedCopy) (bytes : List ℕ) : Type 0
   pub log : IsLog entries bytes
 
 -- a good copy that isn't numbered 00: a memory keeps it, once it is printed
-unfoldable pub is_kept : TaggedCopy → Bool
-is_kept copy = is_good copy && not (is_number_00 copy)
+unfoldable pub is_memorable : TaggedCopy → Bool
+is_memorable copy = is_good copy && not (is_number_00 copy)
 
 -- the entries that a memory makes of printed copies, in order
-unfoldable pub kept_entries : List TaggedCopy → List MemoryEntry
-kept_entries copies = map entry_of (filter is_kept copies)
+unfoldable pub memory_entries : List TaggedCopy → List MemoryEntry
+memory_entries copies = map entry_of (filter is_memorable copies)
 
 -- what a log of these entries remembers of a channel: the last 200 of them
 abbrev pub remembered_on : Channel → List MarkedCopy → List MemoryEntry
-remembered_on channel entries = last_of most_entries (kept_entries (copies_on channel entries))
+remembered_on channel entries = last_of most_entries (memory_entries (copies_on channel entries))

@@ -26,7 +26,7 @@ ghost use Rattle.nx_receiver.specs.declared.air_file_runs.resume_fault.ResumeFau
 ghost use Rattle.nx_receiver.specs.declared.air_file_runs.resume_fault.Want.TheVariants.{Log};
 ghost use Rattle.nx_log.specs.Json.{IsPlacedLine};
 ghost use Rattle.nx_log.specs.KeptLog.{HoldKept, StopKept};
-ghost use Rattle.nx_log.specs.Logged.{IsLogged, IsLoggedAs, IsLogOfLogged, kept_entries, remembered_on};
+ghost use Rattle.nx_log.specs.Logged.{IsLogged, IsLoggedAs, IsLogOfLogged, memory_entries, remembered_on};
 ghost use Rattle.nx_log.specs.Places.{PlacedCopy};
 ghost use Rattle.nx_log.specs.Query.{AreLetters, IsSetOf};
 ghost use Rattle.nx_log.specs.Reading.{HoldEntries, HoldEntriesToEnd, IsNoBracket, StopAtLine, bracket};
@@ -147,7 +147,7 @@ pub fn a_run_writes_a_log()
 /// are the last 200 of these and what its log remembers of the channel.
 pub fn a_log_remembers_what_its_run_entered()
     ensures made { (entries : List MemoryEntry) (copies : List TaggedCopy)
-        → entries_made entries copies ≡ kept_entries (printed_copies entries copies) }
+        → entries_made entries copies ≡ memory_entries (printed_copies entries copies) }
     ensures after { (saved left : SavedStates) (run : Run) (channel : Channel)
         → GoesOn saved run left
         → (saved_of left channel).entries

@@ -2,30 +2,27 @@
 
 ghost use Rattle.std.specs.Prelude.{◌≡◌, ℕ, List, length, Some, None, if◌then◌else◌};
 ghost use Rattle.nx_envelope.specs.Copies.{errors_of};
-ghost use Rattle.nx_log.specs.Logged.{is_kept as the_is_kept};
+ghost use Rattle.nx_log.specs.Logged.{is_memorable as the_is_memorable};
 ghost use Rattle.nx_log.specs.View.{IsViewOf, copy_said};
 ghost use Rattle.nx_copies.specs.copies.Printing.{entry_of};
 ghost use Rattle.nx_copies.specs.copies.Printing as spec;
 
 use crate::entries::entry::EntryView;
 use crate::entries::head::LoggedHead;
+use nx_copies::is_good_share;
 use nx_envelope::How;
 use nx_memory::MemoryEntry;
 
-/// A full copy is good where this many times its errors is less than its characters: fewer than 4
-/// per cent are lost. An empty one is good.
-const GOOD_SHARE: u32 = 25;
-
 impl LoggedHead {
-    /// Whether the entry that it heads is good: full, and 25 times its errors less than the larger
-    /// of 1 and its characters.
+    /// Whether the entry that it heads is good: full, and less than 4 per cent of its characters are
+    /// errors.
     pub fn is_good(&self) -> bool
         ensures { (text : List ℕ) → self.now.errors ≡ errors_of text
             → self.now.characters ≡ length text
             → result ≡ spec.is_good (copy_said self.now text).copy }
     {
         self.how == How::Full
-            && GOOD_SHARE * u32::from(self.errors) < u32::from(self.characters).max(1)
+            && is_good_share(usize::from(self.errors), usize::from(self.characters))
     }
 }
 
@@ -34,7 +31,7 @@ impl LoggedHead {
 pub fn remembered_of(view: &EntryView) -> Option<MemoryEntry>
     ensures { (bytes : List ℕ) → IsViewOf bytes view.now
         → let copy = (copy_said view.now.head view.now.text.now).copy
-        in result ≡ (if the_is_kept copy then Some (entry_of copy) else None) }
+        in result ≡ (if the_is_memorable copy then Some (entry_of copy) else None) }
 {
     let head = &view.head;
     if is_remembered(head) {
@@ -51,7 +48,7 @@ pub fn remembered_of(view: &EntryView) -> Option<MemoryEntry>
 fn is_remembered(head: &LoggedHead) -> bool
     ensures { (text : List ℕ) → head.now.errors ≡ errors_of text
         → head.now.characters ≡ length text
-        → result ≡ the_is_kept (copy_said head.now text).copy }
+        → result ≡ the_is_memorable (copy_said head.now text).copy }
 {
     head.is_good() && head.identity.number() != 0
 }

@@ -11,7 +11,7 @@ use Rattle.nx_envelope.specs.declared.found.How.TheVariants.{Full}
 use Rattle.nx_envelope.proofs.lemmas.headers.Identities.{same_itself}
 use Rattle.nx_fec.specs.declared.air_files.channel.Channel.{Channel}
 use Rattle.nx_fec.specs.declared.air_files.channel.Channel.TheVariants.{One, Zero}
-use Rattle.nx_log.specs.Logged.{is_kept, kept_entries, remembered_on}
+use Rattle.nx_log.specs.Logged.{is_memorable, memory_entries, remembered_on}
 use Rattle.nx_code.specs.Lists.{last_of}
 use Rattle.nx_envelope.specs.Identity.{same_identity}
 use Rattle.nx_memory.specs.Memory.{is_known, most_entries, newest_moment, seconds_known}
@@ -56,7 +56,7 @@ pub put-far : ClocksAreNear Zero []
 put-far near = omega (arith, newest-one, near.1.0)
 
 other-remembered : remembered_on One one_entry ≡ []
-unfolding kept_entries
+unfolding memory_entries
 other-remembered = refl
 
 pub other-near : ClocksAreNear One one_entry (silent_watch 0 [] ∷ [])
@@ -69,7 +69,7 @@ abbrev later_moment : ℕ
 later_moment = 1735929600
 
 later-start : (second_watch later_moment).starts.moment ≡ first_moment
-unfolding kept_entries is_kept
+unfolding memory_entries is_memorable
 later-start = refl
 
 later-hears : Hears (second_watch later_moment).starts (lines_of (second_watch later_moment))
@@ -147,12 +147,12 @@ abbrev other_entry : MemoryEntry
 other_entry = record { identity = eb02; moment = first_moment }
 
 others-kept : (count : ℕ) → entries_on Zero (other_entries count) ≡ replicate count other_entry
-unfolding kept_entries is_kept
+unfolding memory_entries is_memorable
 others-kept zero = refl
 others-kept (suc count) = ap (λ l. other_entry ∷ l) (others-kept count)
 
 one-kept : entries_on Zero one_entry ≡ entry_of first_copy ∷ []
-unfolding kept_entries is_kept
+unfolding memory_entries is_memorable
 one-kept = refl
 
 -- the entries that the first two of the watches made
@@ -281,11 +281,11 @@ module _ (moment : ℕ) (starts : (watch_behind moment).starts.entries Zero ≡ 
       is_remembered (entries_after (entry_then moment ∷ []) cs) c) parts.0 parts.1
 
 old-starts : (watch_behind 1735454400).starts.entries Zero ≡ entry_then 1735454400 ∷ []
-unfolding kept_entries is_kept
+unfolding memory_entries is_memorable
 old-starts = refl
 
 old-low : (watch_behind 1735454400).starts.moment ≤ first_moment
-unfolding kept_entries is_kept
+unfolding memory_entries is_memorable
 old-low = lit≤ tt
 
 old-gone : is_remembered (entry_then 1735454400 ∷ []) first_copy ≡ false
@@ -295,11 +295,11 @@ pub old-unknown : IsUnknownOver Zero (watch_behind 1735454400 ∷ []) ea01
 old-unknown first named none = known-behind 1735454400 old-starts old-low first ∙ old-gone
 
 young-starts : (watch_behind 1735454401).starts.entries Zero ≡ entry_then 1735454401 ∷ []
-unfolding kept_entries is_kept
+unfolding memory_entries is_memorable
 young-starts = refl
 
 young-low : (watch_behind 1735454401).starts.moment ≤ first_moment
-unfolding kept_entries is_kept
+unfolding memory_entries is_memorable
 young-low = lit≤ tt
 
 young-stays : is_remembered (entry_then 1735454401 ∷ []) first_copy ≡ true

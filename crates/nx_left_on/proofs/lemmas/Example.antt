@@ -18,7 +18,7 @@ use Rattle.nx_fec.specs.air_files.Channels.{same_channel}
 use Rattle.nx_fec.specs.declared.air_files.channel.Channel.{Channel}
 use Rattle.nx_fec.specs.declared.air_files.channel.Channel.TheVariants.{Zero, One, Two}
 use Rattle.nx_fec.proofs.lemmas.emissions.RoundTrip.{length-bits_of}
-use Rattle.nx_log.specs.Logged.{IsLogged, IsLoggedAs, is_kept, is_text_byte, kept_entries, remembered_on}
+use Rattle.nx_log.specs.Logged.{IsLogged, IsLoggedAs, is_memorable, is_text_byte, memory_entries, remembered_on}
 use Rattle.nx_memory.specs.Memory.{newest_moment, seconds_known}
 use Rattle.nx_memory.specs.Selection.{admits}
 use Rattle.nx_memory.specs.declared.memories.entry.MemoryEntry.{MemoryEntry}
@@ -323,15 +323,15 @@ one-stands =
 -- ---- with what the first watch starts, and what it prints
 
 first-entries : first_watch.starts.entries Zero ≡ []
-unfolding kept_entries
+unfolding memory_entries
 first-entries = refl
 
 first-start : first_watch.starts.moment ≡ 0
-unfolding kept_entries
+unfolding memory_entries
 first-start = refl
 
 pub one-remembered : remembered_on Zero one_entry ≡ entry_of first_copy ∷ []
-unfolding kept_entries is_kept
+unfolding memory_entries is_memorable
 one-remembered = refl
 
 first-shown : printed_copies [] (copy_then first_moment ∷ []) ≡ first_copy ∷ []
@@ -492,7 +492,7 @@ pub record IsSecond (n : ℕ) : Type 0 where
 
 -- four hours later, and 66 hours less a second
 pub four-hours : IsSecond 1735706400
-unfolding kept_entries is_kept printed_copies if_printed is_printed
+unfolding memory_entries is_memorable printed_copies if_printed is_printed
 four-hours = record {
   low = lit≤ tt;
   near = lit< tt;
@@ -503,7 +503,7 @@ four-hours = record {
 }
 
 pub almost-66-hours : IsSecond 1735929599
-unfolding kept_entries is_kept printed_copies if_printed is_printed
+unfolding memory_entries is_memorable printed_copies if_printed is_printed
 almost-66-hours = record {
   low = lit≤ tt;
   near = lit< tt;
@@ -674,7 +674,7 @@ module _ (n : ℕ) (is : IsSecond n) where
   two-copies = refl
 
   one-put : length (entries_on Zero (all_put both)) ≡ 1
-  unfolding kept_entries is_kept
+  unfolding memory_entries is_memorable
   one-put = refl
 
   -- so few entries are made in all

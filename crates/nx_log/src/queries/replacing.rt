@@ -6,7 +6,7 @@ ghost use Rattle.nx_log.specs.private.Heads.{head_is_better, head_of_message, he
 
 use crate::entries::head::LoggedHead;
 use nx_envelope::How;
-use nx_memory::LIFETIME;
+use nx_memory::is_recent;
 
 impl LoggedHead {
     /// Whether the entry that it heads takes the place of one that stood before it: one of the same
@@ -45,5 +45,5 @@ impl LoggedHead {
 fn is_within_66_hours(first: u64, moment: u64) -> bool
     ensures { result ≡ spec.is_within_66_hours first moment }
 {
-    first <= moment && moment - first < LIFETIME
+    first <= moment && is_recent(first, moment)
 }

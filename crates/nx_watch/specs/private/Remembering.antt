@@ -3,7 +3,7 @@ use Rattle.std.specs.Prelude.{◌≡◌, ℕ, List, [], ◌∷◌, ◌++◌, Opt
 use Rattle.nx_code.specs.Lists.{last_of}
 use Rattle.nx_fec.specs.declared.air_files.channel.Channel.{Channel}
 use Rattle.nx_fec.specs.declared.air_files.channel.Channel.TheVariants.{Zero, One, Two}
-use Rattle.nx_log.specs.Logged.{IsLoggedAs, is_kept, kept_entries}
+use Rattle.nx_log.specs.Logged.{IsLoggedAs, is_memorable, memory_entries}
 use Rattle.nx_memory.specs.Memory.{most_entries}
 use Rattle.nx_memory.specs.declared.memories.entry.MemoryEntry.{MemoryEntry}
 use Rattle.nx_copies.specs.copies.Printing.{entry_of}
@@ -22,7 +22,7 @@ abbrev pub RemembersBehind : LogMemory → LogMemory → List MarkedCopy → Typ
 RemembersBehind old new copies =
     (channel : Channel) (all : List MemoryEntry) → memory_on old channel ≡ last_of most_entries all
     → memory_on new channel
-    ≡ last_of most_entries (all ++ kept_entries (copies_on channel copies))
+    ≡ last_of most_entries (all ++ memory_entries (copies_on channel copies))
 
 -- the same of the copy whose entry has these bytes
 abbrev pub RemembersMore : LogMemory → List ℕ → LogMemory → Type 0
@@ -31,4 +31,4 @@ RemembersMore old bytes new =
 
 -- the channel of a copy, and the entry that a memory makes of it, if it makes one
 abbrev pub entry_found : MarkedCopy → Option (Channel × MemoryEntry)
-entry_found one = if is_kept one.copy then Some (one.channel, entry_of one.copy) else None
+entry_found one = if is_memorable one.copy then Some (one.channel, entry_of one.copy) else None

@@ -8,7 +8,7 @@ use Rattle.std.proofs.lemmas.List.Elements.{filter-append}
 use Rattle.nx_code.specs.Lists.{last_of}
 use Rattle.nx_fec.specs.declared.air_files.channel.Channel.{Channel}
 use Rattle.nx_fec.specs.declared.air_files.channel.Channel.TheVariants.{Zero, One, Two}
-use Rattle.nx_log.specs.Logged.{is_kept, kept_entries, remembered_on}
+use Rattle.nx_log.specs.Logged.{is_memorable, memory_entries, remembered_on}
 use Rattle.nx_log.proofs.lemmas.runs.Remembering.{made_is_kept}
 use Rattle.nx_memory.specs.Content.{IsContent}
 use Rattle.nx_memory.specs.Memory.{most_entries, newest_moment, newest_of, seconds_known}
@@ -35,19 +35,19 @@ use Rattle.nx_left_on.proofs.lemmas.entries.Remembering.{all-remembered}
 
 -- all entries that a log has of a channel, whenever they were put
 abbrev pub entries_on : Channel → List MarkedCopy → List MemoryEntry
-entries_on channel log = kept_entries (copies_on channel log)
+entries_on channel log = memory_entries (copies_on channel log)
 
 pub kept-append : (front back : List TaggedCopy)
-    → kept_entries (front ++ back) ≡ kept_entries front ++ kept_entries back
-unfolding kept_entries
+    → memory_entries (front ++ back) ≡ memory_entries front ++ memory_entries back
+unfolding memory_entries
 kept-append front back =
-    ap (map entry_of) (filter-append is_kept front back)
-    ∙ map-append entry_of (filter is_kept front) (filter is_kept back)
+    ap (map entry_of) (filter-append is_memorable front back)
+    ∙ map-append entry_of (filter is_memorable front) (filter is_memorable back)
 
 pub entries-append : (channel : Channel) (front back : List MarkedCopy)
     → entries_on channel (front ++ back) ≡ entries_on channel front ++ entries_on channel back
 entries-append channel front back =
-    ap kept_entries (copies_on-append channel front back)
+    ap memory_entries (copies_on-append channel front back)
     ∙ kept-append (copies_on channel front) (copies_on channel back)
 
 pub known-is : (moment : ℕ) (log : List MarkedCopy) (channel : Channel)
@@ -119,7 +119,7 @@ module _ (channel : Channel) (log : List MarkedCopy) (watch : Watch) (goes : Goe
   enters-on =
       entries-append channel log watch.put
       ∙ ap (λ made. entries ++ made)
-      (ap kept_entries puts-on ∙ sym (made_is_kept entries copies))
+      (ap memory_entries puts-on ∙ sym (made_is_kept entries copies))
 
   pub low : newest_moment (remembered_on channel log) ≤ watch.starts.moment
   low = subst (λ es. newest_moment es ≤ watch.starts.moment) starts-with
@@ -190,7 +190,7 @@ prints-chain log watches channel content chain near =
 
 -- an empty log remembers nothing
 none-on : (channel : Channel) → entries_on channel [] ≡ []
-unfolding kept_entries
+unfolding memory_entries
 none-on channel = refl
 
 pub none-remembered : (channel : Channel) → remembered_on channel [] ≡ []

@@ -9,7 +9,7 @@ use Rattle.std.proofs.lemmas.List.Elements.{All-head}
 use Rattle.nx_envelope.specs.declared.identity.Identity.{Identity}
 use Rattle.nx_envelope.proofs.lemmas.headers.Identities.{same_identity-true}
 use Rattle.nx_fec.specs.declared.air_files.channel.Channel.{Channel}
-use Rattle.nx_log.specs.Logged.{is_kept, kept_entries}
+use Rattle.nx_log.specs.Logged.{is_memorable, memory_entries}
 use Rattle.nx_memory.specs.Memory.{seconds_known}
 use Rattle.nx_memory.specs.declared.memories.entry.MemoryEntry.{MemoryEntry}
 use Rattle.nx_copies.specs.copies.FoundCopies.{TaggedCopy}
@@ -65,10 +65,10 @@ module _ (entries : List MemoryEntry) (copy : TaggedCopy) (copies : List TaggedC
       ap₂ (λ b made. cond b (copy ∷ []) [] ++ printed_copies (entries ++ made) copies) shown enters
 
   pub kept-next : (more : List TaggedCopy)
-      → kept_entries (copy ∷ more) ≡ entry_of copy ∷ kept_entries more
-  unfolding kept_entries is_kept
+      → memory_entries (copy ∷ more) ≡ entry_of copy ∷ memory_entries more
+  unfolding memory_entries is_memorable
   kept-next more =
-      ap (λ b. map entry_of (cond b (copy ∷ filter is_kept more) (filter is_kept more)))
+      ap (λ b. map entry_of (cond b (copy ∷ filter is_memorable more) (filter is_memorable more)))
       (and_from (is_good copy) (not (is_number_00 copy)) good (not_from_false _ other))
 
 -- ---- the watch that judges it
@@ -192,10 +192,10 @@ module _ (log : List MarkedCopy) (watches : List Watch) (channel : Channel) (ide
 
   abbrev kept_front : List MemoryEntry
   kept_front = entries_on channel (all_put before)
-      ++ kept_entries (printed_copies known f.at.earlier)
+      ++ memory_entries (printed_copies known f.at.earlier)
 
   abbrev kept_behind : List MemoryEntry
-  kept_behind = kept_entries (printed_copies made f.at.later)
+  kept_behind = memory_entries (printed_copies made f.at.later)
 
   entries_put : entries_on channel (all_put (before ++ watch ∷ [])) ≡ kept_front ++ entry
       ∷ kept_behind
@@ -205,11 +205,11 @@ module _ (log : List MarkedCopy) (watches : List Watch) (channel : Channel) (ide
       ap (entries_on channel) next_put
       ∙ entries-append channel (all_put before) watch.put
       ∙ ap (λ l. entries_on channel (all_put before) ++ l)
-      (ap kept_entries puts
+      (ap memory_entries puts
       ∙ kept-append shown_front (first ∷ shown_behind)
-      ∙ ap (λ l. kept_entries shown_front ++ l)
+      ∙ ap (λ l. memory_entries shown_front ++ l)
       (kept-next so_far first f.at.later shown good other shown_behind))
-      ∙ sym (append_assoc (entries_on channel (all_put before)) (kept_entries shown_front)
+      ∙ sym (append_assoc (entries_on channel (all_put before)) (memory_entries shown_front)
       (entry ∷ kept_behind))
 
   come : HasCome channel identity entry numbered named (entries_on channel log) watches few

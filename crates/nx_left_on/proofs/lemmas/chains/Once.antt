@@ -14,7 +14,7 @@ use Rattle.nx_envelope.specs.Message.{MessageView, text_of}
 use Rattle.nx_envelope.specs.declared.identity.Identity.{Identity}
 use Rattle.nx_envelope.proofs.lemmas.headers.Identities.{same_identity-true, same_itself}
 use Rattle.nx_fec.specs.declared.air_files.channel.Channel.{Channel}
-use Rattle.nx_log.specs.Logged.{kept_entries}
+use Rattle.nx_log.specs.Logged.{memory_entries}
 use Rattle.nx_log.proofs.lemmas.runs.Remembering.{made_is_kept}
 use Rattle.nx_memory.specs.Memory.{is_known, most_entries, seconds_known}
 use Rattle.nx_memory.specs.declared.memories.entry.MemoryEntry.{MemoryEntry}
@@ -164,7 +164,7 @@ abbrev Lacks : Identity → MemoryEntry → Type 0
 Lacks identity entry = same_identity entry.identity identity ≡ false
 
 lacks-kept : (identity : Identity) (copies : List TaggedCopy) → copies_of identity copies ≡ []
-    → All (Lacks identity) (kept_entries copies)
+    → All (Lacks identity) (memory_entries copies)
 lacks-kept identity copies none =
     all-kept (Lacks identity) copies (all-other identity copies none)
 

@@ -8,7 +8,7 @@ use Rattle.std.proofs.lemmas.Bool.{and_parts, cases_lt, ne_eqb, true≢false}
 use Rattle.nx_envelope.specs.Identity.{same_identity}
 use Rattle.nx_envelope.specs.declared.identity.Identity.{Identity}
 use Rattle.nx_envelope.proofs.lemmas.headers.Identities.{same_itself}
-use Rattle.nx_log.specs.Logged.{is_kept, kept_entries}
+use Rattle.nx_log.specs.Logged.{is_memorable, memory_entries}
 use Rattle.nx_memory.specs.Memory.{most_entries, seconds_known}
 use Rattle.nx_memory.specs.declared.memories.entry.MemoryEntry.{MemoryEntry}
 use Rattle.nx_memory.proofs.lemmas.Known.{known_from_live}
@@ -88,29 +88,30 @@ module _ (identity : Identity) (entry : MemoryEntry) (numbered : 0 < identity.nu
 
   few-made : (so_far : Judged) (heard : HeardCopy) (later : List TaggedCopy)
       → length (entry_made_combined so_far.entries so_far.printed
-      (combined_copy so_far.families heard)) + length (kept_entries later)
-      ≤ length (kept_entries ((combined_copy so_far.families heard).copy ∷ later))
-  unfolding entry_made_combined is_entered_combined kept_entries is_kept
+      (combined_copy so_far.families heard)) + length (memory_entries later)
+      ≤ length (memory_entries ((combined_copy so_far.families heard).copy ∷ later))
+  unfolding entry_made_combined is_entered_combined memory_entries is_memorable
   few-made so_far heard later =
       let one = combined_copy so_far.families heard in
       let printed = is_printed_combined so_far.entries so_far.printed one in
-      let rest = map entry_of (filter is_kept later) in
+      let rest = map entry_of (filter is_memorable later) in
       elim (printed && is_good one.copy && is_some one.family) as (λ (b : Bool).
       (printed && is_good one.copy && is_some one.family) ≡ b
       → length (cond b (entry_of one.copy ∷ []) []) + length rest
       ≤ length (map entry_of (cond (is_good one.copy && not (is_number_00 one.copy))
-      (one.copy ∷ filter is_kept later) (filter is_kept later)))) [
+      (one.copy ∷ filter is_memorable later) (filter is_memorable later)))) [
         | true ↦ λ is.
             let outer = and_parts (printed && is_good one.copy) (is_some one.family) is in
             let good = (and_parts printed (is_good one.copy) outer.0).1 in
             let kept : (is_good one.copy && not (is_number_00 one.copy)) ≡ true =
             ap₂ (λ a b. a && not b) good (family-numbered so_far.families heard outer.1) in
             subst (λ (c : Bool). 1 + length rest ≤ length (map entry_of (cond c
-            (one.copy ∷ filter is_kept later) (filter is_kept later)))) (sym kept) (omega arith)
+            (one.copy ∷ filter is_memorable later) (filter is_memorable later)))) (sym kept)
+            (omega arith)
         | false ↦ λ is.
             elim (is_good one.copy && not (is_number_00 one.copy)) as (λ (c : Bool).
             0 + length rest ≤ length (map entry_of (cond c
-            (one.copy ∷ filter is_kept later) (filter is_kept later)))) [
+            (one.copy ∷ filter is_memorable later) (filter is_memorable later)))) [
               | true ↦ omega arith
               | false ↦ omega arith
             ]
@@ -186,7 +187,7 @@ module _ (identity : Identity) (entry : MemoryEntry) (numbered : 0 < identity.nu
       → (earlier later : List TaggedCopy) (copy : TaggedCopy)
       → all_copies (all_printed so_far copies) ≡ earlier ++ copy ∷ later
       → copy.identity ≡ identity → copies_of identity earlier ≡ []
-      → IsOver entry (length behind + length (kept_entries earlier)) copy
+      → IsOver entry (length behind + length (memory_entries earlier)) copy
 
   -- the next copy is printed
   over-printed : (so_far : Judged) (heard : HeardCopy) (copies : List HeardCopy)
@@ -199,13 +200,14 @@ module _ (identity : Identity) (entry : MemoryEntry) (numbered : 0 < identity.nu
       → (combined_copy so_far.families heard).copy
       ∷ all_copies (all_printed (judged_after so_far heard) copies) ≡ earlier ++ copy ∷ later
       → copy.identity ≡ identity → copies_of identity earlier ≡ []
-      → IsOver entry (length behind + length (kept_entries earlier)) copy
+      → IsOver entry (length behind + length (memory_entries earlier)) copy
   over-printed so_far heard copies printed rest front behind whole are none [] later copy e is
       first =
       let head : (combined_copy so_far.families heard).copy ≡ copy = cc in
       let over = first-over so_far heard front behind whole are none printed
       (ap (λ (c : TaggedCopy). c.identity) head ∙ is) in
-      over-more entry (length behind) (length behind + length (kept_entries [])) copy (omega arith)
+      over-more entry (length behind) (length behind + length (memory_entries [])) copy
+      (omega arith)
       (subst (IsOver entry (length behind)) head over)
   over-printed so_far heard copies printed rest front behind whole are none (x ∷ earlier) later copy
       e is first =
@@ -222,10 +224,11 @@ module _ (identity : Identity) (entry : MemoryEntry) (numbered : 0 < identity.nu
       (none-if so_far heard front behind whole are none true printed (λ same. other))
       earlier later copy tail is parts.1 in
       let kept = few-made so_far heard earlier in
-      let same : length (kept_entries (one.copy ∷ earlier)) ≡ length (kept_entries (x ∷ earlier)) =
-      ap (λ c. length (kept_entries (c ∷ earlier))) head in
-      over-more entry (length (behind ++ made) + length (kept_entries earlier))
-      (length behind + length (kept_entries (x ∷ earlier))) copy
+      let same : length (memory_entries (one.copy ∷ earlier))
+          ≡ length (memory_entries (x ∷ earlier)) =
+      ap (λ c. length (memory_entries (c ∷ earlier))) head in
+      over-more entry (length (behind ++ made) + length (memory_entries earlier))
+      (length behind + length (memory_entries (x ∷ earlier))) copy
       (omega (arith, kept, same, length-append behind made)) over
 
   -- or it isn't
@@ -238,7 +241,7 @@ module _ (identity : Identity) (entry : MemoryEntry) (numbered : 0 < identity.nu
       → (earlier later : List TaggedCopy) (copy : TaggedCopy)
       → all_copies (all_printed (judged_after so_far heard) copies) ≡ earlier ++ copy ∷ later
       → copy.identity ≡ identity → copies_of identity earlier ≡ []
-      → IsOver entry (length behind + length (kept_entries earlier)) copy
+      → IsOver entry (length behind + length (memory_entries earlier)) copy
   over-unprinted so_far heard copies unprinted rest front behind whole are none earlier later copy e
       is first =
       let one = combined_copy so_far.families heard in
@@ -250,8 +253,8 @@ module _ (identity : Identity) (entry : MemoryEntry) (numbered : 0 < identity.nu
       (none-if so_far heard front behind whole are none false unprinted
       (λ same. absurd (true≢false (sym same))))
       earlier later copy e is first in
-      over-more entry (length (behind ++ made) + length (kept_entries earlier))
-      (length behind + length (kept_entries earlier)) copy
+      over-more entry (length (behind ++ made) + length (memory_entries earlier))
+      (length behind + length (memory_entries earlier)) copy
       (omega (arith, nothing, length-append behind made)) over
 
   over-next : (so_far : Judged) (heard : HeardCopy) (copies : List HeardCopy) (b : Bool)
@@ -283,7 +286,7 @@ pub printed-over : (start : Start) (heard : List HeardCopy) (log earlier later :
     (printed_combined start.entries [] (combined_copies [] heard))
     → start.entries ≡ front ++ entry ∷ behind → entry.identity ≡ identity → 0 < identity.number
     → log ≡ earlier ++ copy ∷ later → copy.identity ≡ identity → copies_of identity earlier ≡ []
-    → IsOver entry (length behind + length (kept_entries earlier)) copy
+    → IsOver entry (length behind + length (memory_entries earlier)) copy
 printed-over start heard log earlier later copy identity front behind entry prints whole named
     numbered split is first =
     again identity entry numbered named (none_judged start) heard front behind whole tt tt earlier

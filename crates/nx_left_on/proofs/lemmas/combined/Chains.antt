@@ -12,7 +12,7 @@ use Rattle.nx_envelope.specs.Identity.{same_identity}
 use Rattle.nx_envelope.specs.Message.{MessageView}
 use Rattle.nx_envelope.specs.declared.identity.Identity.{Identity}
 use Rattle.nx_fec.specs.declared.air_files.channel.Channel.{Channel}
-use Rattle.nx_log.specs.Logged.{kept_entries, remembered_on}
+use Rattle.nx_log.specs.Logged.{memory_entries, remembered_on}
 use Rattle.nx_memory.specs.Memory.{most_entries, newest_moment, seconds_known}
 use Rattle.nx_memory.specs.declared.memories.entry.MemoryEntry.{MemoryEntry}
 use Rattle.nx_copies.specs.Events.{Event, Setting, Start, elements_among, first_setting, setting_at, settings}
@@ -316,14 +316,14 @@ module _ (channel : Channel) (identity : Identity) (entry : MemoryEntry)
         → length s.behind < most_entries
         → copies_on channel watch.put ≡ earlier ++ copy ∷ later → copy.identity ≡ identity
         → copies_of identity earlier ≡ []
-        → IsOver entry (length s.behind + length (kept_entries earlier)) copy
+        → IsOver entry (length s.behind + length (memory_entries earlier)) copy
     watch-over earlier later copy few e is first =
         let at = at-start few in
         let p = on-channel.prints in
         let split : copies_on channel puts.printed ≡ earlier ++ copy ∷ (later ++ more) =
         begins ∙ ap (λ l. l ++ more) e ∙ append_assoc earlier (copy ∷ later) more in
-        over-more entry (length at.behind + length (kept_entries earlier))
-        (length s.behind + length (kept_entries earlier)) copy (omega (arith, at.few))
+        over-more entry (length at.behind + length (memory_entries earlier))
+        (length s.behind + length (memory_entries earlier)) copy (omega (arith, at.few))
         (printed-over start
         (heard_copies (first_setting start) (events_in channel watch)
         (on-channel.found (elements_among (events_in channel watch)) p.locks p.now))
@@ -357,15 +357,15 @@ module _ (channel : Channel) (identity : Identity) (entry : MemoryEntry)
         ∙ same_back identity copy.identity isnt in
         record {
           front = s.front;
-          behind = s.behind ++ kept_entries put;
+          behind = s.behind ++ memory_entries put;
           whole = entries-append channel log watch.put
-              ∙ ap (λ es. es ++ kept_entries put) s.whole
-              ∙ append_assoc s.front (entry ∷ s.behind) (kept_entries put);
-          others = All-append apart s.behind (kept_entries put) s.others
+              ∙ ap (λ es. es ++ memory_entries put) s.whole
+              ∙ append_assoc s.front (entry ∷ s.behind) (memory_entries put);
+          others = All-append apart s.behind (memory_entries put) s.others
               (all-kept apart put
               (All-weaker (λ copy. bears identity copy ≡ false) (λ copy. apart (entry_of copy))
               other-is put (all-other identity put none)));
-          late = All-append (λ other. entry.moment ≤ other.moment) s.behind (kept_entries put)
+          late = All-append (λ other. entry.moment ≤ other.moment) s.behind (memory_entries put)
               s.late
               (all-kept (λ other. entry.moment ≤ other.moment) put (put-low few));
         }
@@ -377,11 +377,11 @@ module _ (channel : Channel) (identity : Identity) (entry : MemoryEntry)
       → (s : StandsLast channel log entry) → (earlier later : List TaggedCopy) (copy : TaggedCopy)
       → copies_on channel (all_put watches) ≡ earlier ++ copy ∷ later → copy.identity ≡ identity
       → copies_of identity earlier ≡ []
-      → IsOver entry (length s.behind + length (kept_entries earlier)) copy
+      → IsOver entry (length s.behind + length (memory_entries earlier)) copy
 
   next-over : (log : List MarkedCopy) (watch : Watch) (watches : List Watch)
       → AreOver (log ++ watch.put) watches → AreOver log (watch ∷ watches)
-  unfolding kept_entries stands-next
+  unfolding memory_entries stands-next
   next-over log watch watches rest chain near s earlier later copy e is first =
       elim (cases_lt (length s.behind) most_entries) [
         | inl few ↦
@@ -397,7 +397,7 @@ module _ (channel : Channel) (identity : Identity) (entry : MemoryEntry)
       by : length s.behind < most_entries
           → StandsIn (copies_on channel watch.put) (copies_on channel (all_put watches)) earlier
           later copy
-          → IsOver entry (length s.behind + length (kept_entries earlier)) copy
+          → IsOver entry (length s.behind + length (memory_entries earlier)) copy
       by few (in_front after here) =
           watch-over log watch chain.0 close s earlier after copy few here is first
       by few (in_back front here behind) =
@@ -407,13 +407,13 @@ module _ (channel : Channel) (identity : Identity) (entry : MemoryEntry)
           in
           let next = stands-next log watch chain.0 close s few parts.0 in
           let over = rest chain.1 near.1 next front later copy behind is parts.1 in
-          let kept : length (kept_entries earlier)
-          ≡ length (kept_entries put) + length (kept_entries front) =
-          ap (λ cs. length (kept_entries cs)) here ∙ ap (λ es. length es) (kept-append put front)
-          ∙ length-append (kept_entries put) (kept_entries front) in
-          over-more entry (length (s.behind ++ kept_entries put) + length (kept_entries front))
-          (length s.behind + length (kept_entries earlier)) copy
-          (omega (arith, kept, length-append s.behind (kept_entries put))) over
+          let kept : length (memory_entries earlier)
+          ≡ length (memory_entries put) + length (memory_entries front) =
+          ap (λ cs. length (memory_entries cs)) here ∙ ap (λ es. length es) (kept-append put front)
+          ∙ length-append (memory_entries put) (memory_entries front) in
+          over-more entry (length (s.behind ++ memory_entries put) + length (memory_entries front))
+          (length s.behind + length (memory_entries earlier)) copy
+          (omega (arith, kept, length-append s.behind (memory_entries put))) over
 
   pub chain-over : (log : List MarkedCopy) (watches : List Watch) → AreOver log watches
   chain-over log [] chain near s [] later copy e is first = cc

@@ -27,7 +27,7 @@ use Rattle.nx_fec.specs.air_files.Channels.{same_channel}
 use Rattle.nx_fec.specs.declared.air_files.channel.Channel.{Channel}
 use Rattle.nx_fec.specs.declared.air_files.channel.Channel.TheVariants.{One, Two, Zero}
 use Rattle.nx_fec.specs.emissions.Emission.{bits_of}
-use Rattle.nx_log.specs.Logged.{IsLogged, IsLoggedAs, kept_entries, remembered_on}
+use Rattle.nx_log.specs.Logged.{IsLogged, IsLoggedAs, memory_entries, remembered_on}
 use Rattle.nx_memory.specs.Memory.{newest_moment, newest_of}
 use Rattle.nx_memory.specs.Saved.{later_of}
 use Rattle.nx_memory.specs.Selection.{admits}
@@ -158,7 +158,7 @@ AreBy n log = (channel : Channel) → All (λ (c : TaggedCopy). c.moment ≤ n) 
 remembered-by : (n : ℕ) (log : List MarkedCopy) (channel : Channel) → AreBy n log
     → All (IsBy n) (remembered_on channel log)
 remembered-by n log channel are =
-    let kept = kept_entries (copies_on channel log) in
+    let kept = memory_entries (copies_on channel log) in
     All-drop (IsBy n) (length kept - 200) kept
     (all-kept (IsBy n) (copies_on channel log) (are channel))
 
@@ -370,7 +370,7 @@ record IsHeardSo (start : Start) (given : List Event) : Type 0 where
       (heard.first ∷ heard.later)
 
 first-start : start_on (starts_at first_moment []) Zero ≡ empty_at 0
-unfolding kept_entries
+unfolding memory_entries
 first-start = refl
 
 first-given : events_on Zero (twice_lines_at first_moment ++ []) ≡ events 1735692000

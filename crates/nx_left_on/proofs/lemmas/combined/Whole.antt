@@ -14,7 +14,7 @@ use Rattle.nx_envelope.specs.declared.found.How.TheVariants.{Full}
 use Rattle.nx_envelope.specs.declared.identity.Identity.{Identity}
 use Rattle.nx_envelope.proofs.lemmas.headers.Identities.{same_identity-true}
 use Rattle.nx_fec.specs.declared.air_files.channel.Channel.{Channel}
-use Rattle.nx_log.specs.Logged.{is_kept, kept_entries}
+use Rattle.nx_log.specs.Logged.{is_memorable, memory_entries}
 use Rattle.nx_memory.specs.declared.memories.entry.MemoryEntry.{MemoryEntry}
 use Rattle.nx_copies.specs.Events.{Event, Setting, Start, elements_among, first_setting, setting_at}
 use Rattle.nx_copies.specs.copies.FoundCopies.{TaggedCopy}
@@ -110,8 +110,8 @@ full-is : (how : How) → how ≡ Full → is_full how ≡ true
 full-is how is = ap is_full is
 
 whole-kept : (copy : TaggedCopy) → copy.how ≡ Full → errors_of copy.text ≡ 0
-    → 0 < copy.identity.number → is_kept copy ≡ true
-unfolding is_kept
+    → 0 < copy.identity.number → is_memorable copy ≡ true
+unfolding is_memorable
 whole-kept copy full none numbered =
     let few : nat_lt (good_share * errors_of copy.text) (max 1 (length copy.text)) ≡ true =
     ap (λ (n : ℕ). nat_lt (good_share * n) (max 1 (length copy.text))) none
@@ -121,11 +121,12 @@ whole-kept copy full none numbered =
     (max 1 (length copy.text))) (full-is copy.how full) few)
     (ap not (ne_eqb copy.identity.number 0 (λ e. omega (arith, numbered, e))))
 
-kept-first : (copy : TaggedCopy) (copies : List TaggedCopy) → is_kept copy ≡ true
-    → kept_entries (copy ∷ copies) ≡ entry_of copy ∷ kept_entries copies
-unfolding kept_entries
+kept-first : (copy : TaggedCopy) (copies : List TaggedCopy) → is_memorable copy ≡ true
+    → memory_entries (copy ∷ copies) ≡ entry_of copy ∷ memory_entries copies
+unfolding memory_entries
 kept-first copy copies kept =
-    ap (λ b. map entry_of (cond b (copy ∷ filter is_kept copies) (filter is_kept copies))) kept
+    ap (λ b. map entry_of (cond b (copy ∷ filter is_memorable copies) (filter is_memorable copies)))
+    kept
 
 none-named : (identity : Identity) (entry : MemoryEntry) (copies : List CombinedCopy)
     → entry.identity ≡ identity
@@ -166,19 +167,19 @@ stands-whole channel log put message start copies later m numbered climbs w =
     let kept = whole-kept copy o.whole.full o.whole.no_error
     (subst (λ (i : Identity). 0 < i.number) (sym named) numbered) in
     let up = climbs-behind m front copy behind (subst (Climbs m) split climbs) in
-    let made : kept_entries (copies_on channel put)
-    ≡ kept_entries front ++ entry_of copy ∷ kept_entries behind =
-    ap kept_entries split ∙ kept-append front (copy ∷ behind)
-    ∙ ap (λ es. kept_entries front ++ es) (kept-first copy behind kept) in (
+    let made : memory_entries (copies_on channel put)
+    ≡ memory_entries front ++ entry_of copy ∷ memory_entries behind =
+    ap memory_entries split ∙ kept-append front (copy ∷ behind)
+    ∙ ap (λ es. memory_entries front ++ es) (kept-first copy behind kept) in (
       entry_of copy,
       named,
       record {
-        front = entries_on channel log ++ kept_entries front;
-        behind = kept_entries behind;
+        front = entries_on channel log ++ memory_entries front;
+        behind = memory_entries behind;
         whole = entries-append channel log put
             ∙ ap (λ es. entries_on channel log ++ es) made
-            ∙ sym (append_assoc (entries_on channel log) (kept_entries front)
-            (entry_of copy ∷ kept_entries behind));
+            ∙ sym (append_assoc (entries_on channel log) (memory_entries front)
+            (entry_of copy ∷ memory_entries behind));
         others = all-kept (λ other. same_identity copy.identity other.identity ≡ false) behind
             (none-named message.identity (entry_of copy) others named o.nothing_behind);
         late = all-kept (λ other. copy.moment ≤ other.moment) behind

@@ -12,7 +12,7 @@ use Rattle.nx_envelope.proofs.lemmas.headers.Identities.{same_identity-true}
 use Rattle.nx_memory.specs.Memory.{IsLive, most_entries, seconds_known}
 use Rattle.nx_memory.specs.declared.memories.entry.MemoryEntry.{MemoryEntry}
 use Rattle.nx_memory.proofs.lemmas.Known.{known_from_live}
-use Rattle.nx_log.specs.Logged.{is_kept, kept_entries}
+use Rattle.nx_log.specs.Logged.{is_memorable, memory_entries}
 use Rattle.nx_copies.specs.copies.FoundCopies.{TaggedCopy}
 use Rattle.nx_copies.specs.copies.Printing.{copies_of, entries_made, entry_made, entry_of, if_printed}
 use Rattle.nx_copies.specs.copies.Printing.{is_number_00, is_printed, printed_copies}
@@ -66,14 +66,14 @@ all-printed P entries (copy ∷ copies) all =
 
 -- and so have the entries that are kept of them
 pub all-kept : (P : MemoryEntry → Type 0) (copies : List TaggedCopy)
-    → All (λ copy. P (entry_of copy)) copies → All P (kept_entries copies)
-unfolding kept_entries
+    → All (λ copy. P (entry_of copy)) copies → All P (memory_entries copies)
+unfolding memory_entries
 all-kept P [] all = All-nil P
 all-kept P (copy ∷ copies) all =
     let rest = all-kept P copies
     (All-tail (λ (it : TaggedCopy). P (entry_of it)) copy copies all) in
-    elim (is_kept copy) as (λ b. All P
-    (map entry_of (cond b (copy ∷ filter is_kept copies) (filter is_kept copies)))) [
+    elim (is_memorable copy) as (λ b. All P
+    (map entry_of (cond b (copy ∷ filter is_memorable copies) (filter is_memorable copies)))) [
       | true ↦ All-cons P (entry_of copy) _
           (All-head (λ (it : TaggedCopy). P (entry_of it)) copy copies all) rest
       | false ↦ rest

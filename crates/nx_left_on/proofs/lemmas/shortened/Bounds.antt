@@ -7,7 +7,7 @@ use Rattle.nx_envelope.specs.declared.found.How.TheVariants.{Full}
 use Rattle.nx_fec.specs.air_files.AirFile.{moment}
 use Rattle.nx_fec.specs.declared.air_files.channel.Channel.{Channel}
 use Rattle.nx_fec.specs.declared.air_files.channel.Channel.TheVariants.{One, Two, Zero}
-use Rattle.nx_log.specs.Logged.{is_kept, kept_entries, remembered_on}
+use Rattle.nx_log.specs.Logged.{is_memorable, memory_entries, remembered_on}
 use Rattle.nx_log.specs.Query.{admits, chosen}
 use Rattle.nx_memory.specs.Memory.{newest_moment}
 use Rattle.nx_memory.specs.declared.memories.entry.MemoryEntry.{MemoryEntry}
@@ -30,7 +30,7 @@ use Rattle.nx_left_on.proofs.lemmas.shortened.Starting.{AreBehindOld}
 
 others-left : (channel : Channel) → AreBehindOld 1735929600 (remembered_on channel one_entry)
     (remembered_on channel [])
-unfolding kept_entries is_kept
+unfolding memory_entries is_memorable
 others-left Zero = record {
   front = entry_of first_copy ∷ [];
   split = refl;
@@ -61,23 +61,23 @@ young-stays h = of (h.left_out Zero) (sym (h.split Zero) ∙ one-remembered) (h.
 
 pub kept-out : printed_copies (remembered_on Zero one_entry)
     (heard_at 1735929599 ea01 Full [] ∷ []) ≡ []
-unfolding printed_copies if_printed is_printed kept_entries is_kept
+unfolding printed_copies if_printed is_printed memory_entries is_memorable
 kept-out = refl
 
 pub let-in : printed_copies (remembered_on Zero []) (heard_at 1735929599 ea01 Full [] ∷ [])
     ≡ heard_at 1735929599 ea01 Full [] ∷ []
-unfolding printed_copies if_printed is_printed kept_entries is_kept
+unfolding printed_copies if_printed is_printed memory_entries is_memorable
 let-in = refl
 
 -- ---- what its watch hears
 
 newest-is : (starts_at 1735929600 one_entry).moment ≡ first_moment
-unfolding kept_entries is_kept
+unfolding memory_entries is_memorable
 newest-is = refl
 
 pub heard : HearsFrom 1735929600 (moments_at 1735929600 (starts_at 1735929600 one_entry))
     (Some (moment 1735929600) ∷ [])
-unfolding kept_entries is_kept
+unfolding memory_entries is_memorable
 heard =
     inr (
       lit≤ tt,
@@ -91,11 +91,11 @@ not-heard (inl near) = omega (arith, near, newest-is)
 not-heard (inr late) = omega (arith, late-head 1735929600 1735929599 [] late.1)
 
 pub idle : acting_at 1735929600 one_entry (Some (moment 5) ∷ []) ≡ []
-unfolding kept_entries is_kept
+unfolding memory_entries is_memorable
 idle = refl
 
 pub acts : acting_at 1735929600 [] (Some (moment 5) ∷ []) ≡ moment 5 ∷ []
-unfolding kept_entries is_kept
+unfolding memory_entries is_memorable
 acts = refl
 
 -- ---- out of order
@@ -105,12 +105,12 @@ unfolding admits
 chosen-is = refl
 
 newest-whole : newest_moment (remembered_on Zero (newer_entry ++ one_entry)) ≡ first_moment
-unfolding kept_entries is_kept
+unfolding memory_entries is_memorable
 newest-whole = refl
 
 newer-is : (entry : MemoryEntry) × (remembered_on Zero newer_entry ≡ entry ∷ [])
     × (entry.moment ≡ 1735929600)
-unfolding kept_entries is_kept
+unfolding memory_entries is_memorable
 newer-is = (record { identity = eb02; moment = 1735929600 }, refl, refl)
 
 pub not-old : (now : ℕ) → LeavesOutOld now (newer_entry ++ one_entry) newer_entry → ⊥
@@ -123,10 +123,10 @@ not-old now h =
 
 pub whole-starts : (starts_at 1735929600 (newer_entry ++ one_entry)).entries Zero
     ≡ remembered_on Zero one_entry
-unfolding kept_entries is_kept
+unfolding memory_entries is_memorable
 whole-starts = refl
 
 pub shorter-starts : (starts_at 1735929600 newer_entry).entries Zero
     ≡ remembered_on Zero newer_entry
-unfolding kept_entries is_kept
+unfolding memory_entries is_memorable
 shorter-starts = refl

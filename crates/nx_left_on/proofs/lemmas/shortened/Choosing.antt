@@ -9,7 +9,7 @@ use Rattle.std.proofs.lemmas.List.Elements.{All-cons, All-head, All-nil, All-tai
 use Rattle.nx_code.specs.Lists.{last_of}
 use Rattle.nx_fec.specs.air_files.Channels.{same_channel}
 use Rattle.nx_fec.specs.declared.air_files.channel.Channel.{Channel}
-use Rattle.nx_log.specs.Logged.{is_kept, kept_entries, remembered_on}
+use Rattle.nx_log.specs.Logged.{is_memorable, memory_entries, remembered_on}
 use Rattle.nx_log.specs.Query.{admits, admitted_by, chosen, chosen_so}
 use Rattle.nx_log.specs.declared.queries.query.Query.{Query}
 use Rattle.nx_memory.specs.Memory.{most_entries, seconds_known}
@@ -67,22 +67,22 @@ stays-so moment whole shorter put h =
 -- what one logged entry makes of a channel
 made_of : Channel → MarkedCopy → List MemoryEntry
 made_of channel one =
-    cond (same_channel one.channel channel && is_kept one.copy) (entry_of one.copy ∷ []) []
+    cond (same_channel one.channel channel && is_memorable one.copy) (entry_of one.copy ∷ []) []
 
 one-more : (channel : Channel) (one : MarkedCopy) (log : List MarkedCopy)
     → entries_on channel (one ∷ log) ≡ made_of channel one ++ entries_on channel log
-unfolding kept_entries made_of
+unfolding memory_entries made_of
 one-more channel one log =
     let rest = copies_on channel log in
     elim (same_channel one.channel channel) as (λ (a : Bool).
-    map entry_of (filter is_kept (map (λ (it : MarkedCopy). it.copy)
+    map entry_of (filter is_memorable (map (λ (it : MarkedCopy). it.copy)
     (cond a (one ∷ filter (λ (it : MarkedCopy). same_channel it.channel channel) log)
     (filter (λ (it : MarkedCopy). same_channel it.channel channel) log))))
-    ≡ cond (a && is_kept one.copy) (entry_of one.copy ∷ []) [] ++ map entry_of
-    (filter is_kept rest)) [
-      | true ↦ elim (is_kept one.copy) as (λ (b : Bool).
-          map entry_of (cond b (one.copy ∷ filter is_kept rest) (filter is_kept rest))
-          ≡ cond b (entry_of one.copy ∷ []) [] ++ map entry_of (filter is_kept rest)) [
+    ≡ cond (a && is_memorable one.copy) (entry_of one.copy ∷ []) [] ++ map entry_of
+    (filter is_memorable rest)) [
+      | true ↦ elim (is_memorable one.copy) as (λ (b : Bool).
+          map entry_of (cond b (one.copy ∷ filter is_memorable rest) (filter is_memorable rest))
+          ≡ cond b (entry_of one.copy ∷ []) [] ++ map entry_of (filter is_memorable rest)) [
             | true ↦ refl
             | false ↦ refl
           ]
@@ -92,13 +92,13 @@ one-more channel one log =
 abbrev is_late : ℕ → MemoryEntry → Bool
 is_late first entry = nat_le first entry.moment
 
-good-of : (copy : TaggedCopy) → is_kept copy ≡ true → is_good copy ≡ true
-unfolding is_kept
+good-of : (copy : TaggedCopy) → is_memorable copy ≡ true → is_good copy ≡ true
+unfolding is_memorable
 good-of copy kept = (and_parts (is_good copy) (not (is_number_00 copy)) kept).0
 
 -- such a query admits what counts exactly where it isn't before the moment
 admits-late : (first : ℕ) (query : Query) (one : MarkedCopy) → AsksSince first query
-    → is_kept one.copy ≡ true → admits query one ≡ nat_le first one.copy.moment
+    → is_memorable one.copy ≡ true → admits query one ≡ nat_le first one.copy.moment
 unfolding admits
 admits-late first query one asks kept =
     rw asks.stations
@@ -125,14 +125,14 @@ late-made : (first : ℕ) (query : Query) (channel : Channel) (one : MarkedCopy)
 unfolding made_of
 late-made first query channel one asks =
     let entry = entry_of one.copy in
-    elim (same_channel one.channel channel && is_kept one.copy) as (λ (b : Bool).
-    (same_channel one.channel channel && is_kept one.copy) ≡ b
+    elim (same_channel one.channel channel && is_memorable one.copy) as (λ (b : Bool).
+    (same_channel one.channel channel && is_memorable one.copy) ≡ b
     → filter (is_late first) (cond b (entry ∷ []) [])
     ≡ cond (admits query one) (cond b (entry ∷ []) []) []) [
       | true ↦ λ is.
           ap (λ a. cond a (entry ∷ []) [])
           (sym (admits-late first query one asks
-          (and_parts (same_channel one.channel channel) (is_kept one.copy) is).1))
+          (and_parts (same_channel one.channel channel) (is_memorable one.copy) is).1))
       | false ↦ λ is. none-left (admits query one)
     ] refl
 
@@ -140,7 +140,7 @@ filter-admitted : (first : ℕ) (query : Query) (channel : Channel) (entries : L
     → AsksSince first query
     → entries_on channel (filter (admits query) entries)
     ≡ filter (is_late first) (entries_on channel entries)
-unfolding kept_entries
+unfolding memory_entries
 filter-admitted first query channel [] asks = refl
 filter-admitted first query channel (one ∷ entries) asks =
     let made = made_of channel one in

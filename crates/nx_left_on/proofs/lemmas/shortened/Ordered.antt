@@ -5,7 +5,7 @@ use Rattle.std.specs.List.Sorted.{IsNonDecreasingBy}
 use Rattle.std.proofs.lemmas.List.{length-drop, take-append-drop}
 use Rattle.nx_code.specs.Lists.{last_of}
 use Rattle.nx_fec.specs.declared.air_files.channel.Channel.{Channel}
-use Rattle.nx_log.specs.Logged.{kept_entries, remembered_on}
+use Rattle.nx_log.specs.Logged.{memory_entries, remembered_on}
 use Rattle.nx_memory.specs.Content.{IsContent}
 use Rattle.nx_memory.specs.Memory.{most_entries, newest_moment}
 use Rattle.nx_memory.specs.declared.memories.entry.MemoryEntry.{MemoryEntry}
@@ -156,5 +156,5 @@ chain-order log watches content order chain near channel =
     (sorted-rise (entries_on channel log) (order channel)))
 
 pub empty-order : AreInOrder []
-unfolding kept_entries
+unfolding memory_entries
 empty-order channel i j d le lt = absurd (omega arith)

@@ -16,20 +16,21 @@ use Rattle.nx_copies.specs.copies.FoundCopies.{FoundCopy, tagged_copies}
 use Rattle.nx_copies.specs.copies.Printing.{entries_after}
 use Rattle.nx_copies.specs.copies.Shares.{Starts, copies_on, saved_of}
 use Rattle.nx_receiver.proofs.lemmas.chain.Runs.{chain_prints, found_same}
-use Rattle.nx_log.specs.Logged.{is_kept, kept_entries, remembered_on}
+use Rattle.nx_log.specs.Logged.{is_memorable, memory_entries, remembered_on}
 
 -- what is made of one copy is what is kept of it, if it is printed
 one_made : (entries : List MemoryEntry) (copy : TaggedCopy) (rest : List TaggedCopy)
-    → entry_made entries copy ++ kept_entries rest ≡ kept_entries (if_printed entries copy ++ rest)
-unfolding entry_made is_entered if_printed kept_entries is_kept
+    → entry_made entries copy ++ memory_entries rest
+    ≡ memory_entries (if_printed entries copy ++ rest)
+unfolding entry_made is_entered if_printed memory_entries is_memorable
 one_made entries copy rest =
     elim (is_printed entries copy) as (λ p.
     (if (p && is_good copy && not (is_number_00 copy)) then entry_of copy ∷ [] else [])
-    ++ map entry_of (filter is_kept rest)
-    ≡ map entry_of (filter is_kept ((if p then copy ∷ [] else []) ++ rest))) [
+    ++ map entry_of (filter is_memorable rest)
+    ≡ map entry_of (filter is_memorable ((if p then copy ∷ [] else []) ++ rest))) [
       | true ↦ elim (is_good copy && not (is_number_00 copy)) as (λ k.
-          (if k then entry_of copy ∷ [] else []) ++ map entry_of (filter is_kept rest)
-          ≡ map entry_of (cond k (copy ∷ filter is_kept rest) (filter is_kept rest))) [
+          (if k then entry_of copy ∷ [] else []) ++ map entry_of (filter is_memorable rest)
+          ≡ map entry_of (cond k (copy ∷ filter is_memorable rest) (filter is_memorable rest))) [
             | true ↦ refl
             | false ↦ refl
           ]
@@ -37,8 +38,8 @@ one_made entries copy rest =
     ]
 
 pub made_is_kept : (entries : List MemoryEntry) (copies : List TaggedCopy)
-    → entries_made entries copies ≡ kept_entries (printed_copies entries copies)
-unfolding entries_made printed_copies kept_entries
+    → entries_made entries copies ≡ memory_entries (printed_copies entries copies)
+unfolding entries_made printed_copies memory_entries
 made_is_kept entries [] = refl
 made_is_kept entries (copy ∷ copies) =
     ap (λ l. entry_made entries copy ++ l)
@@ -94,5 +95,5 @@ log_remembers saved left run channel g =
     ∙ ap (λ (s : Starts). last_of most_entries
     (entries_after (s.entries channel) (copies_in channel run))) g.begins
     ∙ ap (λ made. last_of most_entries (begun ++ made))
-    (made_is_kept begun (copies_in channel run) ∙ ap kept_entries (sym logged))
-    ∙ last_of_last most_entries begun (kept_entries (copies_on channel run.printed))
+    (made_is_kept begun (copies_in channel run) ∙ ap memory_entries (sym logged))
+    ∙ last_of_last most_entries begun (memory_entries (copies_on channel run.printed))

@@ -13,7 +13,7 @@ use Rattle.nx_fec.specs.air_files.Channels.{same_channel}
 use Rattle.nx_fec.specs.declared.air_files.channel.Channel.{Channel}
 use Rattle.nx_kept.specs.Taker.{Took}
 use Rattle.nx_envelope.specs.Moment.{last_moment}
-use Rattle.nx_log.specs.Logged.{IsLoggedAs, is_kept, kept_entries, remembered_on}
+use Rattle.nx_log.specs.Logged.{IsLoggedAs, is_memorable, memory_entries, remembered_on}
 use Rattle.nx_log.specs.View.{IsViewOf, copy_said}
 use Rattle.nx_log.specs.declared.entries.entry.EntryView.{EntryView}
 use Rattle.nx_log.proofs.lemmas.reading.Entries.{one_entry}
@@ -67,15 +67,15 @@ last-next n items all entry is full some =
 
 -- what one copy keeps on a channel
 pub kept-one : (channel : Channel) (one : MarkedCopy)
-    → kept_entries (copies_on channel (one ∷ []))
+    → memory_entries (copies_on channel (one ∷ []))
     ≡ cond (same_channel one.channel channel)
-    (cond (is_kept one.copy) (entry_of one.copy ∷ []) []) []
-unfolding kept_entries
+    (cond (is_memorable one.copy) (entry_of one.copy ∷ []) []) []
+unfolding memory_entries
 kept-one channel one =
     elim (same_channel one.channel channel) as (λ b.
-    map entry_of (filter is_kept (map (λ (m : MarkedCopy). m.copy) (cond b (one ∷ []) [])))
-    ≡ cond b (cond (is_kept one.copy) (entry_of one.copy ∷ []) []) []) [
-      | true ↦ elim (is_kept one.copy) as (λ k.
+    map entry_of (filter is_memorable (map (λ (m : MarkedCopy). m.copy) (cond b (one ∷ []) [])))
+    ≡ cond b (cond (is_memorable one.copy) (entry_of one.copy ∷ []) []) []) [
+      | true ↦ elim (is_memorable one.copy) as (λ k.
           map entry_of (cond k (one.copy ∷ []) []) ≡ cond k (entry_of one.copy ∷ []) []) [
             | true ↦ refl
             | false ↦ refl
@@ -85,21 +85,22 @@ kept-one channel one =
 
 -- and what is kept of it and of those behind it
 pub kept-both : (channel : Channel) (one : MarkedCopy) (rest : List MarkedCopy)
-    → kept_entries (copies_on channel (one ∷ [])) ++ kept_entries (copies_on channel rest)
-    ≡ kept_entries (copies_on channel (one ∷ rest))
-unfolding kept_entries
+    → memory_entries (copies_on channel (one ∷ [])) ++ memory_entries (copies_on channel rest)
+    ≡ memory_entries (copies_on channel (one ∷ rest))
+unfolding memory_entries
 kept-both channel one rest =
     let behind = map (λ (m : MarkedCopy). m.copy)
     (filter (λ (m : MarkedCopy). same_channel m.channel channel) rest) in
     elim (same_channel one.channel channel) as (λ b.
-    map entry_of (filter is_kept (map (λ (m : MarkedCopy). m.copy) (cond b (one ∷ []) [])))
-    ++ map entry_of (filter is_kept behind)
-    ≡ map entry_of (filter is_kept (map (λ (m : MarkedCopy). m.copy)
+    map entry_of (filter is_memorable (map (λ (m : MarkedCopy). m.copy) (cond b (one ∷ []) [])))
+    ++ map entry_of (filter is_memorable behind)
+    ≡ map entry_of (filter is_memorable (map (λ (m : MarkedCopy). m.copy)
     (cond b (one ∷ filter (λ (m : MarkedCopy). same_channel m.channel channel) rest)
     (filter (λ (m : MarkedCopy). same_channel m.channel channel) rest))))) [
-      | true ↦ elim (is_kept one.copy) as (λ k.
-          map entry_of (cond k (one.copy ∷ []) []) ++ map entry_of (filter is_kept behind)
-          ≡ map entry_of (cond k (one.copy ∷ filter is_kept behind) (filter is_kept behind))) [
+      | true ↦ elim (is_memorable one.copy) as (λ k.
+          map entry_of (cond k (one.copy ∷ []) []) ++ map entry_of (filter is_memorable behind)
+          ≡ map entry_of (cond k (one.copy ∷ filter is_memorable behind)
+          (filter is_memorable behind))) [
             | true ↦ refl
             | false ↦ refl
           ]
@@ -118,8 +119,8 @@ either-none false l is = refl
 
 -- nothing, or an entry of a channel, is remembered of a copy
 pub found-none : (channel : Channel) (one : MarkedCopy) → None ≡ entry_found one
-    → kept_entries (copies_on channel (one ∷ [])) ≡ []
-found-none channel one is = kept-one channel one ∙ none-kept (is_kept one.copy) is
+    → memory_entries (copies_on channel (one ∷ [])) ≡ []
+found-none channel one is = kept-one channel one ∙ none-kept (is_memorable one.copy) is
   where
     none-kept : (k : Bool) → None ≡ cond k (found-pair one.channel (entry_of one.copy)) None
         → cond (same_channel one.channel channel) (cond k (entry_of one.copy ∷ []) []) [] ≡ []
@@ -128,8 +129,8 @@ found-none channel one is = kept-one channel one ∙ none-kept (is_kept one.copy
 
 pub found-some : (channel on : Channel) (entry : MemoryEntry) (one : MarkedCopy)
     → found-pair channel entry ≡ entry_found one
-    → kept_entries (copies_on on (one ∷ [])) ≡ cond (same_channel channel on) (entry ∷ []) []
-found-some channel on entry one is = kept-one on one ∙ some-kept (is_kept one.copy) is
+    → memory_entries (copies_on on (one ∷ [])) ≡ cond (same_channel channel on) (entry ∷ []) []
+found-some channel on entry one is = kept-one on one ∙ some-kept (is_memorable one.copy) is
   where
     some-kept : (k : Bool)
         → found-pair channel entry ≡ cond k (found-pair one.channel (entry_of one.copy)) None
@@ -146,7 +147,7 @@ found-some channel on entry one is = kept-one on one ∙ some-kept (is_kept one.
 pub took-remembers : (old new : LogMemory) (entries : List MarkedCopy) (texts : List (List ℕ))
     → AllZip IsLoggedAs entries texts → Took RemembersMore old texts new
     → RemembersBehind old new entries
-unfolding kept_entries
+unfolding memory_entries
 took-remembers old new [] [] each same channel all is =
     ap (λ (m : LogMemory). memory_on m channel) same ∙ is
     ∙ ap (last_of most_entries) (sym (append-nil all))
@@ -156,10 +157,10 @@ took-remembers old new (one ∷ entries) (text ∷ texts) each took channel all 
     let mid = took.0 in
     let first = took.1 one each.0 channel all is in
     took-remembers mid new entries texts each.1 took.2 channel
-    (all ++ kept_entries (copies_on channel (one ∷ []))) first
+    (all ++ memory_entries (copies_on channel (one ∷ []))) first
     ∙ ap (last_of most_entries)
-    (append_assoc all (kept_entries (copies_on channel (one ∷ [])))
-    (kept_entries (copies_on channel entries))
+    (append_assoc all (memory_entries (copies_on channel (one ∷ [])))
+    (memory_entries (copies_on channel entries))
     ∙ ap (λ l. all ++ l) (kept-both channel one entries))
 
 pub took-all : (old new : LogMemory) (entries : List MarkedCopy) (texts : List (List ℕ))
@@ -201,31 +202,31 @@ of-some false channel entry other is = cc
 
 pub seen-none : (one : MarkedCopy) (bytes : List ℕ) (view : EntryView) → IsLoggedAs one bytes
     → IsViewOf bytes view
-    → None ≡ cond (is_kept (copy_said view.head view.text.now).copy)
+    → None ≡ cond (is_memorable (copy_said view.head view.text.now).copy)
     (Some (entry_of (copy_said view.head view.text.now).copy)) None
     → None ≡ entry_found one
 seen-none one bytes view logged seen is =
     let said = copy_said view.head view.text.now in
-    of-none (is_kept said.copy) said.channel (entry_of said.copy) is
+    of-none (is_memorable said.copy) said.channel (entry_of said.copy) is
     ∙ ap entry_found (sym (one-seen one bytes view logged seen))
 
 pub seen-some : (one : MarkedCopy) (bytes : List ℕ) (view : EntryView) (entry : MemoryEntry)
     → IsLoggedAs one bytes → IsViewOf bytes view
-    → Some entry ≡ cond (is_kept (copy_said view.head view.text.now).copy)
+    → Some entry ≡ cond (is_memorable (copy_said view.head view.text.now).copy)
     (Some (entry_of (copy_said view.head view.text.now).copy)) None
     → found-pair view.head.channel entry ≡ entry_found one
 seen-some one bytes view entry logged seen is =
     let said = copy_said view.head view.text.now in
-    of-some (is_kept said.copy) said.channel (entry_of said.copy) entry is
+    of-some (is_memorable said.copy) said.channel (entry_of said.copy) entry is
     ∙ ap entry_found (sym (one-seen one bytes view logged seen))
 
 -- what is kept is numbered
 pub kept-numbered : (copy : TaggedCopy) (entry : MemoryEntry)
-    → Some entry ≡ cond (is_kept copy) (Some (entry_of copy)) None → 0 < entry.identity.number
-unfolding is_kept
-kept-numbered copy entry is = by (is_kept copy) refl is
+    → Some entry ≡ cond (is_memorable copy) (Some (entry_of copy)) None → 0 < entry.identity.number
+unfolding is_memorable
+kept-numbered copy entry is = by (is_memorable copy) refl is
   where
-    by : (k : Bool) → is_kept copy ≡ k → Some entry ≡ cond k (Some (entry_of copy)) None
+    by : (k : Bool) → is_memorable copy ≡ k → Some entry ≡ cond k (Some (entry_of copy)) None
         → 0 < entry.identity.number
     by true e is =
         let same : entry ≡ entry_of copy = cc in
@@ -238,10 +239,10 @@ kept-numbered copy entry is = by (is_kept copy) refl is
     by false e is = cc
 
 pub kept-in-range : (bytes : List ℕ) (view : EntryView) (entry : MemoryEntry) → IsViewOf bytes view
-    → Some entry ≡ cond (is_kept (copy_said view.head view.text.now).copy)
+    → Some entry ≡ cond (is_memorable (copy_said view.head view.text.now).copy)
     (Some (entry_of (copy_said view.head view.text.now).copy)) None
     → entry.moment ≤ last_moment
-kept-in-range bytes view entry seen is = by (is_kept said.copy) is
+kept-in-range bytes view entry seen is = by (is_memorable said.copy) is
   where
     said : MarkedCopy
     said = copy_said view.head view.text.now
