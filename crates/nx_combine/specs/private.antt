@@ -10,4 +10,4 @@ pub mod CombinedPrinting
 pub mod CombinedReceiver
 pub mod Families
 pub mod Judging
-pub mod Laws
+pub mod HeardTogether

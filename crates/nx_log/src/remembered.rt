@@ -14,8 +14,8 @@ use nx_envelope::How;
 use nx_memory::MemoryEntry;
 
 impl LoggedHead {
-    /// Whether the entry that it heads is good: full, and less than 4 per cent of its characters are
-    /// errors.
+    /// Whether the entry that it heads is good: full, and less than 4 per cent of its characters
+    /// are errors.
     pub fn is_good(&self) -> bool
         ensures { (text : List ℕ) → self.now.errors ≡ errors_of text
             → self.now.characters ≡ length text

@@ -23,7 +23,7 @@ use Rattle.nx_combine.specs.CopyPositions.{placed_to_end}
 use Rattle.nx_combine.specs.Families.{has_family, last_index, most_positions}
 use Rattle.nx_combine.specs.Judging.{Judged, all_copies, all_printed, judged_behind}
 use Rattle.nx_combine.specs.Laws.{Arrives, IsHeardOf, IsSending}
-use Rattle.nx_combine.specs.private.Laws.{AreHeardTogether}
+use Rattle.nx_combine.specs.private.HeardTogether.{AreHeardTogether}
 use Rattle.nx_combine.specs.Laws.{IsWholeOnce, RunsOnAs, bears, text_sent}
 use Rattle.nx_combine.proofs.lemmas.Held.{index_joined-none}
 use Rattle.nx_combine.proofs.lemmas.Once.{all_printed-append, in_order, once_all, once_behind}
