@@ -1,7 +1,7 @@
 -- Which combined copies are printed, which of them the memory keeps, and their log (this profile;
 -- the number 00 and the share of 4 per cent are of ITU-R M.540). What is named `holding` takes
 -- first how many families are held; the same name without that word is its case of 200.
-use Rattle.std.specs.Prelude.{◌≡◌, ℕ, ◌==◌, Bool, false, ◌&&◌, ◌||◌}
+use Rattle.std.specs.Prelude.{◌≡◌, ℕ, ◌==◌, Bool, false, ◌&&◌, ◌||◌, if◌then◌else◌}
 use Rattle.std.specs.Prelude.{List, [], ◌∷◌, ◌++◌, map, Option, Some, is_some}
 use Rattle.std.specs.List.{find}
 use Rattle.std.specs.Option.{option_map_or}

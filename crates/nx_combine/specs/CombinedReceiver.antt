@@ -1,6 +1,6 @@
 -- What a receiver that takes several sendings together holds, and after which events: the layer
 -- contract (this profile). `held` is how many families are held.
-use Rattle.std.specs.Prelude.{◌≡◌, ℕ, Bool, List, [], Option}
+use Rattle.std.specs.Prelude.{◌≡◌, ℕ, Bool, List, [], Option, if◌then◌else◌}
 use Rattle.nx_code.specs.Lists.{last_of}
 use Rattle.nx_memory.specs.Memory.{most_entries}
 use Rattle.nx_memory.specs.declared.memories.entry.MemoryEntry.{MemoryEntry}

@@ -1,7 +1,7 @@
 -- Families of copies, and what the copies of one come to together (this profile). The copies are
 -- those of one channel, in the order of their headers. What is named `holding` takes first how many
 -- families are held; what bears the same name without that word is its case of 200.
-use Rattle.std.specs.Prelude.{ℕ, ◌-◌, nat_lt, nat_le, Bool, false, not, ◌&&◌}
+use Rattle.std.specs.Prelude.{ℕ, ◌-◌, nat_lt, nat_le, Bool, false, not, ◌&&◌, if◌then◌else◌}
 use Rattle.std.specs.Prelude.{List, [], ◌∷◌, ◌++◌, length, position}
 use Rattle.std.specs.Prelude.{slice_get, slice_set, Option, Some, None, unwrap_or}
 use Rattle.std.specs.Option.{option_and_then, option_map, option_map_or}

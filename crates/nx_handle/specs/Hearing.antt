@@ -1,6 +1,6 @@
 -- What hearing elements answers (this profile).
 use Rattle.std.specs.Prelude.{◌≡◌, ◌≢◌, ℕ, ◌<◌, ◌≤◌, ◌==◌, nat_lt, Bool, true, false, not, List, []}
-use Rattle.std.specs.Prelude.{◌++◌, length, map, take}
+use Rattle.std.specs.Prelude.{◌++◌, length, map, take, if◌then◌else◌}
 use Rattle.std.specs.List.{list_all}
 use Rattle.nx_fec.specs.air_files.Channels.{channel_number}
 use Rattle.nx_fec.specs.declared.air_files.channel.Channel.{Channel}
