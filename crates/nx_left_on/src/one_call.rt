@@ -1,18 +1,22 @@
 //! Laws of one call of `watch`: what it read, what it told, and that no copy is lost. Each function
 //! does nothing; its contract is the law.
 
-ghost use Rattle.std.specs.Prelude.{◌≡◌, ◌≢◌, ◌⊎◌, ◌≤◌, ℕ, Bool, Contains, List, ◌++◌, drop, length, take, Err, Ok, Option, Result};
+ghost use Rattle.std.specs.Prelude.{◌≡◌, ◌≢◌, ◌⊎◌, ◌≤◌, ℕ, ◌+◌, Bool, true, Contains, List, [], ◌∷◌, ◌++◌, drop, length, take, Err, Ok, Option, Result, Some, ⊤};
 ghost use Rattle.std.specs.Io.KnownBytes.{Appends, Consumes};
 ghost use Rattle.nx_copies.specs.copies.Log.{IsLog};
 ghost use Rattle.nx_copies.specs.copies.Shares.{MarkedCopy};
 ghost use Rattle.nx_fec.specs.Transfers.{CountedDevice, IsReadOut};
-ghost use Rattle.nx_fec.specs.air_files.AirFile.{Line};
+ghost use Rattle.nx_fec.specs.air_files.AirFile.{Line, moment};
+ghost use Rattle.nx_kept.specs.Kept.{line_behind};
 ghost use Rattle.nx_receiver.specs.air_file_runs.Listen.{given_by};
-ghost use Rattle.nx_watch.specs.Acting.{most_bytes};
+ghost use Rattle.nx_watch.specs.Acting.{goes_on, most_bytes};
+ghost use Rattle.nx_watch.specs.AnyLines.{AreLines};
+ghost use Rattle.nx_watch.specs.CutTold.{AreHeads, cut_told};
 ghost use Rattle.nx_watch.specs.LineRun.{HasTold};
 ghost use Rattle.nx_watch.specs.LinesTold.{IsToldAtEnd};
 ghost use Rattle.nx_watch.specs.Stamp.{AreTheReads, LastGaveNone, Stamp};
-ghost use Rattle.nx_watch.specs.Watch.{AnswersStarted, AnswersWatch, HadFailed, HasOpened, HasRead, PrintsUntil, StandsForEntries, Stop, TellsOfCut, moments_at, starts_at};
+ghost use Rattle.nx_watch.specs.Watch.{AnswersStarted, AnswersWatch, HadFailed, HasOpened, HasRead, PrintsUntil, StandsForEntries, Stop, TellsOfCut, back, moments_at, starts_at, unwritten};
+ghost use Rattle.nx_watch.specs.declared.lines.line_effects.StartMoments.{StartMoments};
 ghost use Rattle.nx_watch.specs.declared.watch_fault.WatchFault.{WatchFault};
 ghost use Rattle.nx_watch.specs.declared.watch_fault.WatchFault.TheVariants.{Disk, Read as Unread};
 ghost use Rattle.nx_watch.specs.declared.watch_report.WatchReport.{WatchReport};
@@ -101,4 +105,30 @@ pub fn each_copy_is_kept_or_written<D: DiskFile, R: Read, W: Write, N: Write>()
         × (count : ℕ) × (count ≤ kept) × (text : List ℕ) × IsLog (drop count copies) text
         × HasTold (W.contents a.writer.inner) (W.contents a.writer_after.inner)
         a.writer_after.failures text }
+{}
+
+/// None of the lines before the last one ended a watch, where it stopped behind that one: it goes
+/// back behind a moment, which ends the watch, or a write of what that line prints failed. These
+/// lines are as many as it answers, and they are those of the first bytes that it read.
+pub fn no_line_before_the_last_ends_a_watch()
+    ensures back { (first : StartMoments) (bytes : List ℕ) (lines : List (Option Line))
+        (line last given : ℕ) → HasRead ⊤ first (back line last given) bytes lines
+        → (before : List (Option Line)) × (lines ≡ before ++ Some (moment given) ∷ [])
+        × (goes_on first before ≡ true) × (line ≡ length before + 1) × (front : List ℕ)
+        × (more : List ℕ) × (bytes ≡ front ++ more) × AreLines front lines [] }
+    ensures unwritten { (first : StartMoments) (bytes : List ℕ) (lines : List (Option Line))
+        → HasRead ⊤ first unwritten bytes lines
+        → (before : List (Option Line)) × (line : Line) × (lines ≡ before ++ Some line ∷ [])
+        × (goes_on first before ≡ true) × (front : List ℕ) × (more : List ℕ)
+        × (bytes ≡ front ++ more) × AreLines front lines [] }
+{}
+
+/// What a start tells of what it cuts is of bytes with which the file ends, behind at most the
+/// gate before them: their number and line, and the line with which each whole entry among them
+/// begins, in order.
+pub fn what_a_start_cuts_stands_at_the_end()
+    ensures { (file text : List ℕ) → TellsOfCut file text
+        → (front : List ℕ) × (gate : List ℕ) × (cut : List ℕ) × (heads : List (List ℕ))
+        × (file ≡ front ++ (gate ++ cut)) × (length gate ≤ 1) × AreHeads cut heads
+        × (text ≡ cut_told (line_behind front) cut heads) }
 {}
