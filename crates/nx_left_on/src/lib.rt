@@ -4,6 +4,7 @@
 
 pub mod bounds;
 pub mod laws;
+pub mod one_call;
 pub mod places;
 pub mod reading;
 pub mod shortening;

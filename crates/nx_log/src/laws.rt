@@ -1,6 +1,6 @@
 //! Laws of logged entries. Each function does nothing; its contract is the law.
 
-ghost use Rattle.std.specs.Prelude.{◌≡◌, ◌⊎◌, ℕ, ◌≤◌, ◌<◌, true, List, [], ◌∷◌, ◌++◌, length, All, Option, Result};
+ghost use Rattle.std.specs.Prelude.{◌≡◌, ◌⊎◌, ℕ, ◌≤◌, ◌<◌, true, List, [], ◌∷◌, ◌++◌, length, take, All, Ok, Option, Result, Some};
 ghost use Rattle.std.specs.FinSet as set;
 ghost use Rattle.std.specs.Ordering.{nat_cmp};
 ghost use Rattle.std.specs.Io.KnownBytes.{IsAtEnd};
@@ -31,7 +31,7 @@ ghost use Rattle.nx_log.specs.Places.{PlacedCopy};
 ghost use Rattle.nx_log.specs.Query.{AreLetters, IsSetOf};
 ghost use Rattle.nx_log.specs.Reading.{HoldEntries, HoldEntriesToEnd, IsNoBracket, StopAtLine, bracket};
 ghost use Rattle.nx_log.specs.Runs.{ResumedEntries, WroteEntries};
-ghost use Rattle.nx_log.specs.Salvage.{AreCut, BeginsAnew, Stretch};
+ghost use Rattle.nx_log.specs.Salvage.{AreCut, BeginsAnew, BeginsBehind, IsPassedOver, Stretch};
 ghost use Rattle.nx_log.specs.View.{IsViewOf, copy_said};
 ghost use Rattle.nx_log.specs.declared.entries.entry.EntryView.{EntryView};
 ghost use Rattle.nx_log.specs.declared.writing.places.Places.{Places};
@@ -84,13 +84,17 @@ pub fn a_view_has_the_bytes_of_its_entry()
 {}
 
 /// A kept log is read in one way: its bytes hold one list of entries, each at its places. Where
-/// they are damaged before their end, they hold those of none.
+/// they are damaged before their end, they hold those of none; and the entries that count are those
+/// of the bytes before the damage.
 pub fn a_kept_log_is_read_in_one_way()
     ensures one_reading { (from : ℕ) (entries others : List PlacedCopy) (bytes : List ℕ)
         → HoldKept from bytes entries → HoldKept from bytes others → entries ≡ others }
     ensures stopped { (from : ℕ) (entries others : List PlacedCopy) (bytes : List ℕ) (line : ℕ)
         (stop : StopKept from bytes entries line) → stop.place < length bytes
         → ¬ HoldKept from bytes others }
+    ensures before { (from : ℕ) (entries others : List PlacedCopy) (bytes : List ℕ) (line : ℕ)
+        (stop : StopKept from bytes entries line) → HoldKept from (take stop.place bytes) others
+        → entries ≡ others }
 {}
 
 /// Where a log is damaged, all is passed over up to the next bracket, and no bracket with it.
@@ -99,6 +103,15 @@ pub fn damage_reaches_to_the_next_bracket()
         → AreCut bytes (stretch ∷ earlier) rest
         → (front : List ℕ) × (passed : List ℕ) × (bytes ≡ front ++ (passed ++ rest))
         × All IsNoBracket passed × ((rest ≡ []) ⊎ BeginsAnew rest) }
+{}
+
+/// Each stretch of a damaged log is passed over, to its end: it stops being a log at its line, and
+/// no bracket stands from there on. Each but the first begins with the bracket up to which the one
+/// before it was passed over.
+pub fn each_stretch_is_passed_over_to_a_bracket()
+    ensures { (bytes rest : List ℕ) (later earlier : List Stretch) (one : Stretch)
+        → AreCut bytes (later ++ one ∷ earlier) rest
+        → IsPassedOver one × BeginsBehind earlier one.bytes }
 {}
 
 /// A text that names letters names one at least, and nothing but letters A to Z.
@@ -140,6 +153,15 @@ pub fn a_run_writes_a_log()
         (outcome : Result Report ResumeFault) (input : List ℕ)
         → AnswersResuming Log (read_to (IsAtEnd left_after)) contents outcome input
         → ResumedEntries contents outcome }
+{}
+
+/// What a run writes behind a log makes it a longer one. Where the output held the log of logged
+/// entries, `listen` and `listen_from` leave the log of these and more there, when they end well.
+pub fn a_run_goes_on_with_a_log()
+    ensures { (contents : Contents) (report : Report) (held : List MarkedCopy)
+        (before after : List ℕ) → WroteEntries contents (Ok report)
+        → contents.before ≡ Some before → contents.after ≡ Some after → IsLogOfLogged held before
+        → (more : List MarkedCopy) × IsLogOfLogged (held ++ more) after }
 {}
 
 /// A log says what the memory of its run knew. The entries that are made of copies are those that

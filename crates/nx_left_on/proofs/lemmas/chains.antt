@@ -8,4 +8,5 @@ pub mod Keeps
 pub mod Later
 pub mod Links
 pub mod Once
+pub mod OneCall
 pub mod Stood

@@ -27,14 +27,14 @@ one-way d at false true h k = absurd (omega (arith, h, k))
 one-way d at true false h k = absurd (omega (arith, h, k))
 
 -- no write of it had failed, so it was written
-all-written : (old new : Option (List ℕ)) (failures : ℕ) (text : List ℕ) → failures ≡ 0
+pub all-written : (old new : Option (List ℕ)) (failures : ℕ) (text : List ℕ) → failures ≡ 0
     → HasTold old new failures text → Appends old new text
 all-written old new failures text quiet told = elim told [
   | inl whole ↦ whole.1
   | inr part ↦ absurd (omega (arith, quiet, part.0))
 ]
 
-none-stamped : {A : Type 0} (list : List A) (one : A) → list ≡ [] → Contains list one → ⊥
+pub none-stamped : {A : Type 0} (list : List A) (one : A) → list ≡ [] → Contains list one → ⊥
 none-stamped list one e c =
     let odd : 0 ≡ length list = sym (ap length e) in omega (arith, odd, c.1)
 
