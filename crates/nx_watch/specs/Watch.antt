@@ -360,7 +360,11 @@ module _ {D R W E : Type 0} (d : WatchDevices D R W E) where
   AnswersWatchBy printing now entries outcome =
       AnswersStartedBy printing now (starts_at now entries) entries outcome
 
-  -- the same where each copy is judged alone
+  -- what a started call answers, where each copy is judged alone; and what any call does
+  abbrev pub AnswersStarted : ℕ → Starts → List MarkedCopy → Result WatchReport WatchFault
+      → Type 0
+  AnswersStarted = AnswersStartedBy plain
+
   abbrev pub AnswersWatch : ℕ → List MarkedCopy → Result WatchReport WatchFault → Type 0
   AnswersWatch = AnswersWatchBy plain
 

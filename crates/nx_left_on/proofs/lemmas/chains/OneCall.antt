@@ -1,11 +1,13 @@
 -- What a watch had read, told and written when it was over.
-use Rattle.std.proofs.Common.{◌≡◌, ◌≢◌, ◌⊎◌, ◌≤◌, ◌+◌, ℕ, Bool, List, [], ◌++◌, drop, length, take, Option}
-use Rattle.std.proofs.Common.{Result, Ok, Err, inl, inr, refl, sym, ap, subst, arith, append-nil, ◌∙◌}
+use Rattle.std.proofs.Common.{◌≡◌, ◌≢◌, ◌⊎◌, ◌≤◌, ◌+◌, ℕ, Bool}
+use Rattle.std.proofs.Common.{List, [], ◌++◌, drop, length, take, Option}
+use Rattle.std.proofs.Common.{Result, Ok, Err, inl, inr, refl}
+use Rattle.std.proofs.Common.{sym, ap, subst, arith, append-nil, ◌∙◌}
 use Rattle.std.specs.List.{Contains}
 use Rattle.std.specs.Io.KnownBytes.{Appends, Consumes}
 use Rattle.std.proofs.KnownBytes.{Consumes-nil}
 use Rattle.std.proofs.lemmas.List.Elements.{All-contains}
-use Rattle.nx_copies.specs.copies.Log.{IsLog}
+use Rattle.nx_copies.specs.copies.Log.{IsLog, plain}
 use Rattle.nx_copies.specs.copies.Shares.{MarkedCopy}
 use Rattle.nx_fec.specs.Transfers.{CountedDevice, IsReadOut}
 use Rattle.nx_fec.specs.air_files.AirFile.{Line}
@@ -14,9 +16,12 @@ use Rattle.nx_watch.specs.Acting.{most_bytes}
 use Rattle.nx_watch.specs.LineRun.{HasTold}
 use Rattle.nx_watch.specs.LinesTold.{IsToldAtEnd}
 use Rattle.nx_watch.specs.Stamp.{AreTheReads, LastGaveNone, Stamp}
-use Rattle.nx_watch.specs.Watch.{AnswersStarted, AnswersStop, AnswersWatch, HadFailed, HasOpened, HasRead}
-use Rattle.nx_watch.specs.Watch.{HasWatched, PrintsUntil, StandsForEntries, StoodAt, Stop, TellsOfCut}
-use Rattle.nx_watch.specs.Watch.{WatchDevices, at_end, back, moments_at, starts_at, unread, unwritten}
+use Rattle.nx_watch.specs.Watch.{AnswersStarted, AnswersStop, AnswersWatch}
+use Rattle.nx_watch.specs.Watch.{HadFailed, HasOpened, HasRead}
+use Rattle.nx_watch.specs.Watch.{HasWatchedOverBy, PrintsUntil, StandsForEntries, StoodOverBy}
+use Rattle.nx_watch.specs.Watch.{Stop, TellsOfCut}
+use Rattle.nx_watch.specs.Watch.{WatchDevices, at_end, back}
+use Rattle.nx_watch.specs.Watch.{moments_at, starts_at, unread, unwritten}
 use Rattle.nx_watch.specs.declared.lines.line_effects.StartMoments.{StartMoments}
 use Rattle.nx_watch.specs.declared.watch_report.WatchReport.{WatchReport}
 use Rattle.nx_watch.specs.declared.watch_fault.WatchFault.{WatchFault}
@@ -88,7 +93,8 @@ module _ {D R W N : Type 0} (d : WatchDevices D R W N) (now : ℕ) (entries : Li
           watched.consumed,
           watched.within,
           watched.stamps,
-          λ at there. (All-contains (StoodAt d now (starts_at now entries) entries watched.bytes
+          λ at there. (All-contains (StoodOverBy d plain (d.tells.seen d.start d.disk)
+              now (starts_at now entries) entries watched.bytes
               s.2) d.stamps at watched.before_each_read there).within,
         )
 
@@ -111,7 +117,8 @@ module _ {D R W N : Type 0} (d : WatchDevices D R W N) (now : ℕ) (entries : Li
         × (LastGaveNone d.stamps ⊎ (length bytes ≡ most_bytes))
 
     at-end-read : (lines : List (Option Line)) (copies : List MarkedCopy)
-        → HasWatched d now (starts_at now entries) entries at_end lines copies → ReadAll
+        → HasWatchedOverBy d plain (d.tells.seen d.start d.disk)
+            now (starts_at now entries) entries at_end lines copies → ReadAll
     at-end-read lines copies watched = (
       λ one. let odd : at_end ≡ unread = watched.failed_read.1 one in cc,
       watched.failed_write,
@@ -123,7 +130,8 @@ module _ {D R W N : Type 0} (d : WatchDevices D R W N) (now : ℕ) (entries : Li
 
     pub ok-read : (report : WatchReport) → AnswersWatch d now entries (Ok report) → ReadAll
     ok-read report s = elim s.4 [
-      | inl k ↦ at-end-read s.1 s.2 (subst (λ stop. HasWatched d now (starts_at now entries)
+      | inl k ↦ at-end-read s.1 s.2 (subst (λ stop. HasWatchedOverBy d plain (d.tells.seen d.start d.disk)
+          now (starts_at now entries)
           entries stop s.1 s.2)
           (ends-ok (moments_at now (starts_at now entries)) s.0 s.1 s.2 report k.1) s.3)
       | inr k ↦ absurd (cc)
@@ -134,13 +142,15 @@ module _ {D R W N : Type 0} (d : WatchDevices D R W N) (now : ℕ) (entries : Li
         × LastGaveNone d.stamps
 
     unread-read : (lines : List (Option Line)) (copies : List MarkedCopy)
-        → HasWatched d now (starts_at now entries) entries unread lines copies → ReadFailed
+        → HasWatchedOverBy d plain (d.tells.seen d.start d.disk)
+            now (starts_at now entries) entries unread lines copies → ReadFailed
     unread-read lines copies watched =
         (watched.failed_read.0 refl, watched.failed_write, watched.last_read)
 
     pub failed-read : AnswersWatch d now entries (Err Read) → ReadFailed
     failed-read s = elim s.4 [
-      | inl k ↦ unread-read s.1 s.2 (subst (λ stop. HasWatched d now (starts_at now entries)
+      | inl k ↦ unread-read s.1 s.2 (subst (λ stop. HasWatchedOverBy d plain (d.tells.seen d.start d.disk)
+          now (starts_at now entries)
           entries stop s.1 s.2)
           (ends-unread (moments_at now (starts_at now entries)) s.0 s.1 s.2 k.1) s.3)
       | inr k ↦ absurd (cc)
@@ -154,7 +164,8 @@ module _ {D R W N : Type 0} (d : WatchDevices D R W N) (now : ℕ) (entries : Li
           → AnswersStarted d now (starts_at now entries) entries outcome
           → at.writer.failures ≡ 0
       started-quiet outcome s =
-          let stood = All-contains (StoodAt d now (starts_at now entries) entries s.3.bytes s.2)
+          let stood = All-contains (StoodOverBy d plain (d.tells.seen d.start d.disk)
+              now (starts_at now entries) entries s.3.bytes s.2)
           d.stamps at s.3.before_each_read there in
           elim stood.kept [
             | inl kept ↦ ap (λ (w : CountedDevice W). w.failures) kept.silent ∙ quiet
