@@ -1,14 +1,16 @@
 -- Families in room that a caller lends, and what tells where in it they lie (this profile).
 use Rattle.std.specs.Prelude.{ℕ, ◌≤◌, ◌<◌, List, ◌++◌, drop, length, map, take, Option}
+use Rattle.nx_code.specs.Reading.{Reception}
 use Rattle.nx_copies.specs.declared.entry.EntryHead.{EntryHead}
 use Rattle.nx_combine.specs.Families.{Family}
 use Rattle.nx_combine.specs.Judging.{HeldFamilies}
 use Rattle.nx_combine.specs.declared.family_ring.FamilyRing.{FamilyRing}
 
--- what contracts see of a place: a family, and the head of its last combined copy that was printed,
--- if one was
+-- What contracts see of a place: a family, and the head of its last combined copy that was printed,
+-- if one was. Behind the positions of the family lies what is left there of longer ones before.
 pub record LentFamily : Type 0 where
   pub family : Family
+  pub behind : List Reception
   pub printed : Option EntryHead
 
 -- Of so many of the places that are taken, what lies there, newest first: the newest at the first

@@ -118,10 +118,6 @@ pub record StandsHolding (count : ℕ) (combiner : CombinerView) (families : Lis
   pub printed : combiner.printed ≡ take count (all_last_printed before (length families))
   pub begun : AllByRecursion (IsOfBegun (length families)) before
 
--- it holds the last 200
-abbrev pub StandsCombined : CombinerView → List Family → List CombinedCopy → Type 0
-StandsCombined = StandsHolding most_families
-
 -- The copy that was heard is this one. Of positions that are too many not more are given than show
 -- it.
 pub record IsGivenAs (heard : HeardCopy) (copy : TaggedCopy) (positions : List Reception) : Type 0

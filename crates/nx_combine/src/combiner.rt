@@ -1,6 +1,6 @@
 //! What judges the copies of a channel together with the others of their families.
 
-ghost use Rattle.std.specs.Prelude.{◌≡◌, ◌≤◌, ◌<◌, ◌&&◌, ◌++◌, ◌∷◌, ℕ, List, [], Bool, IfOk, IfSome};
+ghost use Rattle.std.specs.Prelude.{◌≡◌, ◌≤◌, ◌<◌, ◌&&◌, ◌++◌, ◌∷◌, ℕ, List, [], Bool, IfSome};
 ghost use Rattle.std.specs.Prelude.{is_some, length};
 ghost use Rattle.nx_code.specs.Lists.{last_of};
 ghost use Rattle.nx_envelope.specs.Copies.{errors_of};
@@ -13,19 +13,16 @@ ghost use Rattle.nx_combine.specs.CombinedPrinting.{is_better_than_before, is_pr
 ghost use Rattle.nx_combine.specs.Combining.{meant};
 ghost use Rattle.nx_combine.specs.CopyPositions.{HeardCopy};
 ghost use Rattle.nx_combine.specs.Families.{CombinedCopy, Family as OneFamily, combined_copy_holding, families_after_holding};
-ghost use Rattle.nx_combine.specs.Judging.{IsGivenAs, StandsCombined, StandsHolding, combiner_of};
+ghost use Rattle.nx_combine.specs.Judging.{IsGivenAs, StandsHolding, combiner_of};
 ghost use Rattle.nx_combine.specs.private.Judging.{ComesTo};
 ghost use Rattle.nx_combine.specs.Judging.{all_copies, copies_printed, text_printed};
 
 use crate::combining::{Combined, is_better};
-use crate::families::Families;
 use crate::holds_families::HoldsFamilies;
 use crate::position::Position;
 use nx_copies::{EntryHead, is_good_share};
 use nx_envelope::{Finder, How, MAX_FOUND};
 use nx_memory::Renewing;
-use std::alloc::{AllocError, Global};
-use std::mem::size_of;
 
 /// A copy that is printed.
 #[derive(Clone, Copy, Debug)]
@@ -44,22 +41,6 @@ pub struct Combiner<S: HoldsFamilies> {
     pub store: S,
     /// Reads joined positions.
     pub finder: Finder,
-}
-
-impl Combiner<Families> {
-    /// A combiner that has judged nothing, and holds 200 families. Takes all memory that it ever
-    /// needs, and fails where there is none.
-    pub fn new(alloc: Global) -> Result<Combiner<Families>, AllocError>
-        ensures { IfOk result
-            (λ combiner. StandsCombined (combiner_of combiner.store combiner.finder) [] []) }
-    {
-        prove!(size_of::<Combiner<Families>>() == 4192);
-        let store = Families::new(alloc)?;
-        Ok(Combiner {
-            store,
-            finder: Finder::new(),
-        })
-    }
 }
 
 impl<S: HoldsFamilies> Combiner<S> {

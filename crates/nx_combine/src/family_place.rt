@@ -1,6 +1,7 @@
 //! A place for a family in room that a caller lends.
 
-ghost use Rattle.std.specs.Prelude.{◌≡◌, ◌≤◌, None, Some, length, max, take};
+ghost use Rattle.std.specs.Prelude.{◌≡◌, ◌≤◌, ◌-◌, ◌++◌, [], None, Some, drop, length, max, replicate, take};
+ghost use Rattle.nx_code.specs.Reading.{capital_a, lost};
 ghost use Rattle.nx_envelope.specs.Identity.{same_identity};
 ghost use Rattle.nx_combine.specs.CopyPositions.{HeardCopy};
 ghost use Rattle.nx_combine.specs.Families as spec;
@@ -15,7 +16,7 @@ use std::marker::Model;
 use std::mem::size_of;
 
 /// A place for a family, and for the head of its last combined copy that was printed. It holds
-/// numbers alone, and is one where all its bytes are zero. None is made or moved as a whole.
+/// numbers alone, and nothing but what contracts see. Where all of them are zero no family began.
 #[repr(C)]
 #[derive(Drop)]
 pub struct FamilyPlace {
@@ -27,7 +28,8 @@ pub struct FamilyPlace {
 }
 
 impl Model for FamilyPlace {
-    ghost use Rattle.std.specs.Prelude.{◌≤◌, take};
+    ghost use Rattle.std.specs.Prelude.{◌≤◌, ◌++◌, drop, length, take};
+    ghost use Rattle.std.proofs.lemmas.List.{length-take-le, take-append-drop};
     ghost use Rattle.nx_combine.specs.FamilyPlaces.{LentFamily};
     ghost use Rattle.nx_combine.specs.Families.{most_positions};
 
@@ -39,13 +41,51 @@ impl Model for FamilyPlace {
         moment = place.moment;
         positions = take place.count place.positions;
       };
+      behind = drop place.count place.positions;
       printed = place.printed;
     } };
 
-    ghost invariant = { λ place. place.count ≤ most_positions };
+    ghost invariant = { λ place. (place.count ≤ most_positions)
+        × (place.count ≤ length place.positions) };
+
+    ghost inverse = { λ lent. record {
+      moment = lent.family.moment;
+      count = length lent.family.positions;
+      printed = lent.printed;
+      identity = lent.family.identity;
+      positions = lent.family.positions ++ lent.behind;
+    } };
+
+    ghost inverse_ok = { λ place within i. record {
+      moment = place.moment;
+      count = length-take-le place.count place.positions within.1 i;
+      printed = place.printed;
+      identity = place.identity;
+      positions = take-append-drop place.count place.positions i;
+    } };
 }
 
 impl FamilyPlace {
+    /// A place where no family began yet. All its numbers are zero.
+    pub fn new() -> FamilyPlace
+        ensures b1 { result.family.identity.b1.byte ≡ capital_a }
+        ensures b2 { result.family.identity.b2.byte ≡ capital_a }
+        ensures number { result.family.identity.number ≡ 0 }
+        ensures moment { result.family.moment ≡ 0 }
+        ensures positions { result.family.positions ≡ [] }
+        ensures behind { result.behind ≡ replicate spec.most_positions lost }
+        ensures printed { result.printed ≡ None }
+    {
+        prove!(size_of::<FamilyPlace>() == 8232);
+        FamilyPlace {
+            moment: 0,
+            count: 0,
+            printed: PlainHead::none(),
+            identity: PlainIdentity::zeros(),
+            positions: [Position::of_class(0); MAX_POSITIONS],
+        }
+    }
+
     /// Whether the copies of its family are of this identity.
     pub(crate) fn is_of(&self, identity: Identity) -> bool
         ensures { result ≡ same_identity self.now.family.identity identity }
@@ -81,11 +121,12 @@ impl FamilyPlace {
         ensures moment { self.new.family.moment ≡ head.now.moment }
         ensures positions { self.new.family.positions ≡ positions.now }
         ensures printed { self.new.printed ≡ None }
+        ensures behind { self.new.behind
+            ≡ drop (length positions.now) (self.old.family.positions ++ self.old.behind) }
     {
-        prove!(size_of::<FamilyPlace>() == 8232);
         self.identity = PlainIdentity::of(head.identity);
         self.moment = head.moment;
-        self.printed = PlainHead::none(head.identity);
+        self.printed = PlainHead::none();
         self.count = positions.len();
         self.positions[..positions.len()].copy_from_slice(positions);
     }
@@ -96,6 +137,8 @@ impl FamilyPlace {
         ensures joined { (heard : HeardCopy) → heard.positions ≡ positions.now
             → self.new.family ≡ spec.joined_by heard self.old.family }
         ensures printed { self.new.printed ≡ self.old.printed }
+        ensures behind { self.new.behind
+            ≡ drop (length positions.now - length self.old.family.positions) self.old.behind }
     {
         join_in(&mut self.positions, self.count, positions);
         self.count = self.count.max(positions.len());
@@ -105,6 +148,7 @@ impl FamilyPlace {
     pub(crate) fn note(&mut self, head: EntryHead)
         ensures family { self.new.family ≡ self.old.family }
         ensures printed { self.new.printed ≡ Some head }
+        ensures behind { self.new.behind ≡ self.old.behind }
     {
         self.printed = PlainHead::of(head);
     }
@@ -114,7 +158,10 @@ impl FamilyPlace {
 fn join_in(room: &mut [Position], count: usize, copy: &[Position])
     requires count { count ≤ length room.old }
     requires short { length copy.now ≤ length room.old }
-    ensures { take (max count (length copy.now)) room.new ≡ joined (take count room.old) copy.now }
+    ensures joined { take (max count (length copy.now)) room.new
+        ≡ joined (take count room.old) copy.now }
+    ensures behind { drop (max count (length copy.now)) room.new
+        ≡ drop (max count (length copy.now)) room.old }
 {
     for (index, position) in copy.iter().enumerate() {
         room[index] = if index < count {
