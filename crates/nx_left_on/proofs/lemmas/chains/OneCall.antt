@@ -130,7 +130,8 @@ module _ {D R W N : Type 0} (d : WatchDevices D R W N) (now : ℕ) (entries : Li
 
     pub ok-read : (report : WatchReport) → AnswersWatch d now entries (Ok report) → ReadAll
     ok-read report s = elim s.4 [
-      | inl k ↦ at-end-read s.1 s.2 (subst (λ stop. HasWatchedOverBy d plain (d.tells.seen d.start d.disk)
+      | inl k ↦ at-end-read s.1 s.2
+          (subst (λ stop. HasWatchedOverBy d plain (d.tells.seen d.start d.disk)
           now (starts_at now entries)
           entries stop s.1 s.2)
           (ends-ok (moments_at now (starts_at now entries)) s.0 s.1 s.2 report k.1) s.3)
@@ -149,7 +150,8 @@ module _ {D R W N : Type 0} (d : WatchDevices D R W N) (now : ℕ) (entries : Li
 
     pub failed-read : AnswersWatch d now entries (Err Read) → ReadFailed
     failed-read s = elim s.4 [
-      | inl k ↦ unread-read s.1 s.2 (subst (λ stop. HasWatchedOverBy d plain (d.tells.seen d.start d.disk)
+      | inl k ↦ unread-read s.1 s.2
+          (subst (λ stop. HasWatchedOverBy d plain (d.tells.seen d.start d.disk)
           now (starts_at now entries)
           entries stop s.1 s.2)
           (ends-unread (moments_at now (starts_at now entries)) s.0 s.1 s.2 k.1) s.3)
