@@ -47,7 +47,7 @@ module _ {D R W N : Type 0} (d : WatchDevices D R W N) (now : ℕ) (entries : Li
           (d.streams.remaining d.streams.reader_after.inner) bytes
           × (copies : List MarkedCopy)
           × StoodOverBy d plain (d.tells.seen d.start d.disk)
-              now (starts_at now entries) entries bytes copies at
+          now (starts_at now entries) entries bytes copies at
 
       started-there : (outcome : Result WatchReport WatchFault)
           → AnswersStartedBy d plain now (starts_at now entries) entries outcome → StoodThere

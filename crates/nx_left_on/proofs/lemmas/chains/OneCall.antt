@@ -118,7 +118,7 @@ module _ {D R W N : Type 0} (d : WatchDevices D R W N) (now : ℕ) (entries : Li
 
     at-end-read : (lines : List (Option Line)) (copies : List MarkedCopy)
         → HasWatchedOverBy d plain (d.tells.seen d.start d.disk)
-            now (starts_at now entries) entries at_end lines copies → ReadAll
+        now (starts_at now entries) entries at_end lines copies → ReadAll
     at-end-read lines copies watched = (
       λ one. let odd : at_end ≡ unread = watched.failed_read.1 one in cc,
       watched.failed_write,
@@ -144,7 +144,7 @@ module _ {D R W N : Type 0} (d : WatchDevices D R W N) (now : ℕ) (entries : Li
 
     unread-read : (lines : List (Option Line)) (copies : List MarkedCopy)
         → HasWatchedOverBy d plain (d.tells.seen d.start d.disk)
-            now (starts_at now entries) entries unread lines copies → ReadFailed
+        now (starts_at now entries) entries unread lines copies → ReadFailed
     unread-read lines copies watched =
         (watched.failed_read.0 refl, watched.failed_write, watched.last_read)
 
@@ -167,7 +167,7 @@ module _ {D R W N : Type 0} (d : WatchDevices D R W N) (now : ℕ) (entries : Li
           → at.writer.failures ≡ 0
       started-quiet outcome s =
           let stood = All-contains (StoodOverBy d plain (d.tells.seen d.start d.disk)
-              now (starts_at now entries) entries s.3.bytes s.2)
+          now (starts_at now entries) entries s.3.bytes s.2)
           d.stamps at s.3.before_each_read there in
           elim stood.kept [
             | inl kept ↦ ap (λ (w : CountedDevice W). w.failures) kept.silent ∙ quiet

@@ -289,7 +289,7 @@ module _ {printing : Printing} {Goes : List MarkedCopy → Watch → Type 0}
       MarkedCopy)
       (stop : Stop) (lines sure : List (Option Line)) (end : CallEnd) (put : List MarkedCopy)
       (file : List ℕ) (watched : HasWatchedOverBy d printing (d.tells.seen d.start d.disk)
-          now (starts_at now entries) entries stop
+      now (starts_at now entries) entries stop
       lines copies)
       → AreSure end watched.bytes lines sure
       → IsLeftPrinting printing now entries (ending_by end stop) (acting_at now entries lines)
@@ -320,13 +320,13 @@ module _ {printing : Printing} {Goes : List MarkedCopy → Watch → Type 0}
       (entries copies : List MarkedCopy) (stop : Stop) (lines : List (Option Line))
       (at : Stamp D (CountedDevice W) (CountedDevice N)) (file : List ℕ)
       (watched : HasWatchedOverBy d printing (d.tells.seen d.start d.disk)
-          now (starts_at now entries) entries stop lines copies)
+      now (starts_at now entries) entries stop lines copies)
       → Contains d.stamps at → d.tells.faults at.disk ≡ d.tells.faults d.disk
       → d.tells.left_since d.start d.disk_after (d.tells.moment at.disk) file
       → (watch : Watch) × IsOfCallBy Goes d.streams now entries (left_behind at.read) file watch
   left-behind d now entries copies stop lines at file watched there well crash =
       let stood = All-contains (StoodOverBy d printing (d.tells.seen d.start d.disk)
-          now (starts_at now entries) entries
+      now (starts_at now entries) entries
       watched.bytes copies)
       d.stamps at watched.before_each_read there in
       let kept : HadKept d entries stood.printed copies at = elim stood.kept [
@@ -348,7 +348,7 @@ module _ {printing : Printing} {Goes : List MarkedCopy → Watch → Type 0}
   pub kept-over : {D R W N : Type 0} (d : WatchDevices D R W N) (now : ℕ)
       (entries copies : List MarkedCopy) (stop : Stop) (lines : List (Option Line)) (file : List ℕ)
       → HasWatchedOverBy d printing (d.tells.seen d.start d.disk)
-          now (starts_at now entries) entries stop lines copies
+      now (starts_at now entries) entries stop lines copies
       → KeepsAll d entries copies
       → (d.tells.seen d.start d.disk_after ≡ file) ⊎ d.tells.may_leave d.start d.disk_after file
       → (watch : Watch) × IsOfCallBy Goes d.streams now entries all_kept file watch

@@ -225,7 +225,7 @@ module _ (identity : Identity) (entry : MemoryEntry) (numbered : 0 < identity.nu
       earlier later copy tail is parts.1 in
       let kept = few-made so_far heard earlier in
       let same : length (memory_entries (one.copy ∷ earlier))
-          ≡ length (memory_entries (x ∷ earlier)) =
+      ≡ length (memory_entries (x ∷ earlier)) =
       ap (λ c. length (memory_entries (c ∷ earlier))) head in
       over-more entry (length (behind ++ made) + length (memory_entries earlier))
       (length behind + length (memory_entries (x ∷ earlier))) copy

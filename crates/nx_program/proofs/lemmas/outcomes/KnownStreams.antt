@@ -336,7 +336,7 @@ module _ {D R W E : Type 0} (w : WatchDevices D R W E) (printing : Printing)
 
   all-kept : (lines : List (Option Line)) (copies : List MarkedCopy)
       → HasWatchedOverBy w printing (w.tells.seen w.start w.disk)
-          now (starts_at now entries) entries at_end lines copies
+      now (starts_at now entries) entries at_end lines copies
       → KeepsAll w entries copies → Kept
   all-kept lines copies watched kept =
       let read = watched.read in
@@ -358,7 +358,7 @@ module _ {D R W E : Type 0} (w : WatchDevices D R W E) (printing : Printing)
   stopped-kept : (stop : Stop) (lines : List (Option Line)) (copies : List MarkedCopy)
       (report : WatchReport)
       → HasWatchedOverBy w printing (w.tells.seen w.start w.disk)
-          now (starts_at now entries) entries stop lines copies
+      now (starts_at now entries) entries stop lines copies
       → KeepsAll w entries copies
       → AnswersStop (moments_at now (starts_at now entries)) stop lines copies (Ok report) → Kept
   stopped-kept at_end lines copies report watched kept answered =
