@@ -1,5 +1,6 @@
 -- Lemmas that several proofs cite.
 pub mod Places
+pub mod Plain
 pub mod Receivers
 pub mod Heard
 pub mod Begun

@@ -67,7 +67,7 @@ same-at : {X Y : Type 0} (f : X → Y) (xs ys : List X) (k : ℕ) (y : X)
 same-at f xs [] k y same e = absurd (none-is e)
 same-at f [] (z ∷ ys) k y same e = cc
 same-at f (x ∷ xs) (z ∷ ys) zero y same e =
-    let heads : f z ≡ f x = cc in (x, (refl, ap f (sym (some-is e)) ∙ heads))
+    let heads : f z ≡ f x = cc in (x, refl, ap f (sym (some-is e)) ∙ heads)
 same-at f (x ∷ xs) (z ∷ ys) (suc k) y same e =
     let rest : map f ys ≡ map f xs = cc in same-at f xs ys k y rest e
 

@@ -4,7 +4,7 @@ use Rattle.std.proofs.lemmas.Bool.{cases_lt}
 use Rattle.std.proofs.lemmas.Grind.{common_steps}
 use Rattle.nx_fec.specs.declared.air_files.channel.Channel.TheVariants.{Zero, One, Two}
 use Rattle.nx_envelope.specs.Moment.{last_moment}
-use Rattle.nx_copies.specs.Events.{Setting, none_refused}
+use Rattle.nx_copies.specs.Events.{Setting, none_refused, setting_after_all}
 use Rattle.nx_copies.specs.copies.Shares.{Given, MarkedCopy, Starts, all_at_zero}
 use Rattle.nx_receiver.specs.Listener.{moment_in_force}
 use Rattle.nx_receiver.specs.Moments.{Refuses}
@@ -35,6 +35,7 @@ first-moment moment answer e = grind (arith, common_steps)
 begun-moment : {P : Type 0} (kind : PlaceKind P) → IsPlaceKind kind → (places : List P)
     → HaveBegun kind places (start_with [] 0 none_refused) → (k : ℕ) (place : P)
     → slice_get places k ≡ Some place → (kind.start_of place).moment ≡ 0
+unfolding setting_after_all
 begun-moment kind laws places begun k place e =
     let b = begun k place e in
     ap (λ (setting : Setting). setting.moment)

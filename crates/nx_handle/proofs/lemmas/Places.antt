@@ -1,5 +1,5 @@
 -- Places in a list, and channels by their numbers.
-use Rattle.std.proofs.Common.{◌≡◌, ◌≢◌, ◌<◌, ◌≤◌, ◌⊎◌, ◌&&◌, inl, inr, ℕ, zero, suc, Bool, true, false, List, [], ◌∷◌, length, map, get_or, slice_get, slice_set, Option, Some, None, arith, refl, sym, subst, ap, ap₂, ◌∙◌}
+use Rattle.std.proofs.Common.{◌≡◌, ◌≢◌, ◌<◌, ◌≤◌, ◌⊎◌, ◌&&◌, inl, inr, ℕ, zero, suc, Bool, true, false, List, [], ◌∷◌, ◌++◌, length, map, take, drop, get_or, slice_get, slice_set, Option, Some, None, Result, Ok, Err, OnOk, arith, refl, sym, subst, ap, ap₂, ◌∙◌}
 use Rattle.std.specs.List.{list_all}
 use Rattle.std.proofs.lemmas.Option.{slice_get-get_or}
 use Rattle.std.proofs.lemmas.Bool.{true≢false}
@@ -170,6 +170,18 @@ both-closed kind laws old new e f same =
     sym (closed-shut kind laws new f) ∙ same ∙ closed-shut kind laws old e
 
 -- another place there, of which the same holds
+-- those so far are shut, and the others are as they were
+abbrev pub first_shut : {X : Type 0} → (X → X) → ℕ → List X → List X
+first_shut f count xs = map f (take count xs) ++ drop count xs
+
+pub shut-more : {X : Type 0} (f : X → X) (xs : List X) (i : ℕ) (d : X) → i < length xs
+    → slice_set (first_shut f i xs) i (f (get_or (first_shut f i xs) i d))
+    ≡ first_shut f (suc i) xs
+shut-more f [] i d lt = absurd (omega (arith, lt))
+shut-more f (x ∷ xs) zero d lt = refl
+shut-more f (x ∷ xs) (suc i) d lt =
+    ap (λ rest. f x ∷ rest) (shut-more f xs i d (omega (arith, lt)))
+
 pub set-map : {X Y : Type 0} (f : X → Y) (xs : List X) (k : ℕ) (x y : X)
     → slice_get xs k ≡ Some y → f x ≡ f y → map f (slice_set xs k x) ≡ map f xs
 set-map f [] k x y e is = refl
@@ -215,3 +227,10 @@ few-channels Two = omega arith
 pub read-at : {X : Type 0} (xs : List X) (i : ℕ) (d : X) (channel : Channel) → i < length xs
     → i ≡ channel_number channel → slice_get xs (channel_number channel) ≡ Some (get_or xs i d)
 read-at xs i d channel lt is = ap (slice_get xs) (sym is) ∙ slice_get-get_or xs i d lt
+
+-- ---- results
+
+pub on_ok-both : {A B P Q R : Type 0} (result : Result A B) → OnOk result P → OnOk result Q
+    → (P → Q → R) → OnOk result R
+on_ok-both (Ok x) p q f = f p q
+on_ok-both (Err x) p q f = tt
