@@ -15,5 +15,6 @@ pub mod Numbers
 pub mod Opening
 pub mod Saving
 pub mod Selecting
+pub mod Sendings
 pub mod State
 pub mod Status

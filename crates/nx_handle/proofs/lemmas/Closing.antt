@@ -117,6 +117,12 @@ pub record HasGone {P : Type 0} (kind : PlaceKind P) (place : P) : Type 0 where
   pub silent : kind.is_hearing place ≡ false
   pub still : kind.is_closed place ≡ false
 
+-- the end of a place that hears
+pub end-prints : {P : Type 0} (kind : PlaceKind P) (place : P) (last : List TaggedCopy)
+    → kind.is_hearing place ≡ true → EndPrintsWhere kind place last true
+    → EndPrints kind place last
+end-prints kind place last hears h = subst (EndPrintsWhere kind place last) (sym hears) h
+
 -- a place that doesn't hear prints nothing
 pub not-hearing : {P : Type 0} (kind : PlaceKind P) (place : P) → kind.is_hearing place ≡ false
     → EndPrints kind place []

@@ -1,5 +1,5 @@
 -- Places in a list, and channels by their numbers.
-use Rattle.std.proofs.Common.{◌≡◌, ◌≢◌, ◌<◌, ◌≤◌, ◌⊎◌, ◌&&◌, inl, inr, ℕ, zero, suc, Bool, true, false, List, [], ◌∷◌, ◌++◌, length, map, take, drop, get_or, slice_get, slice_set, Option, Some, None, Result, Ok, Err, OnOk, arith, refl, sym, subst, ap, ap₂, ◌∙◌}
+use Rattle.std.proofs.Common.{◌≡◌, ◌≢◌, ◌<◌, ◌≤◌, ◌+◌, ◌⊎◌, ◌&&◌, inl, inr, ℕ, zero, suc, Bool, true, false, List, [], ◌∷◌, ◌++◌, length, map, take, drop, get_or, slice_get, slice_set, Option, Some, None, Result, Ok, Err, OnOk, arith, refl, sym, subst, ap, ap₂, ◌∙◌}
 use Rattle.std.specs.List.{list_all}
 use Rattle.std.proofs.lemmas.Option.{slice_get-get_or}
 use Rattle.std.proofs.lemmas.Bool.{true≢false}
@@ -174,13 +174,22 @@ both-closed kind laws old new e f same =
 abbrev pub first_shut : {X : Type 0} → (X → X) → ℕ → List X → List X
 first_shut f count xs = map f (take count xs) ++ drop count xs
 
-pub shut-more : {X : Type 0} (f : X → X) (xs : List X) (i : ℕ) (d : X) → i < length xs
+shut-more : {X : Type 0} (f : X → X) (xs : List X) (i : ℕ) (d : X) → i < length xs
     → slice_set (first_shut f i xs) i (f (get_or (first_shut f i xs) i d))
     ≡ first_shut f (suc i) xs
 shut-more f [] i d lt = absurd (omega (arith, lt))
 shut-more f (x ∷ xs) zero d lt = refl
 shut-more f (x ∷ xs) (suc i) d lt =
     ap (λ rest. f x ∷ rest) (shut-more f xs i d (omega (arith, lt)))
+
+pub shut-next : {X : Type 0} (f : X → X) (xs now : List X) (i : ℕ) (d x : X) → i < length xs
+    → now ≡ first_shut f i xs → x ≡ f (get_or now i d)
+    → slice_set now i x ≡ first_shut f (i + 1) xs
+shut-next f xs now i d x lt is e =
+    let next : suc i ≡ i + 1 = omega arith in
+    ap (λ y. slice_set now i y) e
+    ∙ ap (λ l. slice_set l i (f (get_or l i d))) is
+    ∙ shut-more f xs i d lt ∙ ap (λ n. first_shut f n xs) next
 
 pub set-map : {X Y : Type 0} (f : X → Y) (xs : List X) (k : ℕ) (x y : X)
     → slice_get xs k ≡ Some y → f x ≡ f y → map f (slice_set xs k x) ≡ map f xs

@@ -8,7 +8,15 @@ use Rattle.nx_handle.proofs.lemmas.Places.{all-set, each-is, read-at, set-long, 
 use Rattle.nx_handle.proofs.hearing.hear.Goals as goal
 
 pub hear_all-requires : goal.hear_all-requires
-hear_all-requires g c = ?
+hear_all-requires g c =
+    let old = c.args.places.now in
+    let on = c.in-Ok.channel in
+    let i : c.from.result ≡ channel_number on = c.from.ensures ∙ c.number.ensures in
+    each-is g.P.KeptPlace.kind.is_hearing old (channel_number on)
+    (get_or old c.from.result c.index-places-from.result)
+    (sym c.all_hear.ensures ∙ c.if-not-all_hear.false)
+    (read-at old c.from.result c.index-places-from.result on
+    (omega (arith, i, c.in-Ok.ensures.ok.0, c.in-Ok.ensures.within)) i)
 
 pub returns : goal.returns
 returns g c =
