@@ -9,6 +9,7 @@ pub mod Invented
 pub mod Joined
 pub mod Judged
 pub mod JudgedOn
+pub mod Leaving
 pub mod Noted
 pub mod Once
 pub mod Printed
