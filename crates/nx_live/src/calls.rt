@@ -65,7 +65,8 @@ pub extern "C" fn nx_live_open_from(receiver: &mut NxLive, state: &[u8]) -> u32
 /// the one in force; the receiver then stays as it was.
 #[unsafe(no_mangle)]
 pub extern "C" fn nx_live_set_moment(receiver: &mut NxLive, moment: u64) -> u32
-    ensures { AnswersBy (λ _ kind old new. AnswersMoment kind moment old new result (all_hear kind old))
+    ensures { AnswersBy (λ _ kind old new. AnswersMoment kind moment old new result
+        (all_hear kind old))
         receiver.old.value receiver.new.value }
 {
     if receiver.combines() {
@@ -91,8 +92,8 @@ pub extern "C" fn nx_live_hear(
     log: &mut [u8],
     written: &mut usize,
 ) -> u32
-    ensures { AnswersBy (λ _ kind old new. AnswersHearing kind channel elements.now old new heard.new
-        (room log.old log.new written.new) result)
+    ensures { AnswersBy (λ _ kind old new. AnswersHearing kind channel elements.now old new
+        heard.new (room log.old log.new written.new) result)
         receiver.old.value receiver.new.value }
 {
     if receiver.combines() {

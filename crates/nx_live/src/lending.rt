@@ -71,8 +71,8 @@ pub unsafe extern "C" fn nx_live_lend_1_families(
     unsafe { lend_combining(receiver, room, 1, families, count) }
 }
 
-/// Makes such a receiver of two channels, channel 0 and 1, as `nx_live_lend_1_families` does of one. There is room for
-/// so many families of each channel, one channel's behind another's.
+/// Makes such a receiver of two channels, channel 0 and 1, as `nx_live_lend_1_families` does of one.
+/// There is room for so many families of each channel, one channel's behind another's.
 #[unsafe(no_mangle)]
 pub unsafe extern "C" fn nx_live_lend_2_families(
     receiver: *mut NxLive,
@@ -88,8 +88,8 @@ pub unsafe extern "C" fn nx_live_lend_2_families(
     unsafe { lend_combining(receiver, room, 2, families, count) }
 }
 
-/// Makes such a receiver of three channels, as `nx_live_lend_1_families` does of one. There is room for
-/// so many families of each channel, one channel's behind another's.
+/// Makes such a receiver of three channels, as `nx_live_lend_1_families` does of one. There is room
+/// for so many families of each channel, one channel's behind another's.
 #[unsafe(no_mangle)]
 pub unsafe extern "C" fn nx_live_lend_3_families(
     receiver: *mut NxLive,

@@ -330,7 +330,8 @@ module _ {M : Type 1} {𝓤 : Ura M} (𝓛 : Logic 𝓤) (at_mem : Memory → SP
         sets ! (of_opd ! (get ! refl)) refl (tt, tt) $
         sets ! (of_opd ! (lit ! tt)) refl (tt, record { fits = lit< tt }) $
         first ! $ blocks ! $
-        loops ! 𝓣 Nearer (InvImage.wf (λ (t : So-far). length t.rest) lt-wf_rel.wf) (Now l) (turns l)
+        loops ! 𝓣 Nearer (InvImage.wf (λ (t : So-far). length t.rest) lt-wf_rel.wf) (Now l)
+        (turns l)
         (record { done = []; rest = held; from = fo; adds = refl; count = omega (arith, same) }))
 
   walk : Triple 𝓤 (𝓣.C #closed) Made → (p r : Ptr) (n : ℕ) (f : Ptr) (each : ℕ)

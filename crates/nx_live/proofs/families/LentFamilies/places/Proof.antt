@@ -115,7 +115,8 @@ module _ {M : Type 1} {𝓤 : Ura M} (𝓛 : Logic 𝓤) (at_mem : Memory → SP
         -- [the row; the words; the open borrow; obs; auth]
         move ! (2 ∷ 3 ∷ 4 ∷ 0 ∷ 1 ∷ []) $ group ! 5 $
         use1 𝓛 (later (some (λ (γ' : GName).
-        raw (IsLent 𝓛 Families family_row left words κ q rb ro γ b o h.value small fitting put γ'))))
+        raw (IsLent 𝓛 Families family_row left words κ q rb ro γ b o h.value small fitting put
+        γ'))))
         (lends_row 𝓛 Families family_row left words κ q rb ro γ b o h.value small fitting put h) $
         await ! tt $ pick ! (λ γ'.
         returns ! (look_at ! 0 refl) $ free_all ! refl $

@@ -94,8 +94,8 @@ module _ {M : Type 1} {𝓤 : Ura M} (𝓛 : Logic 𝓤) (at_mem : Memory → SP
         move ! (1 ∷ []) $ fsplit ! $ fsplit3 ! $ drop ! $ move ! (3 ∷ []) $ split ! $
         move ! (2 ∷ 3 ∷ 0 ∷ []) $
         handle_opens ! tt h rb ro (λ fits kind.
-        rewrite ! 0 (λ (places : Places). ‵ (lie_there h.at h.count places)) (is_combining h.value is)
-        refl $
+        rewrite ! 0 (λ (places : Places). ‵ (lie_there h.at h.count places))
+        (is_combining h.value is) refl $
         lie_out ! combining_row 3 h.at h.count xs (λ long least few.
         in_a_block ! h.at (λ p. in_a_row combining_row p xs) (id⊢ 𝓤 (never 𝓤)) (λ b o at_b.
         let words = word (block_ptr b o) h.count h.combines ∷ [] in
@@ -109,8 +109,8 @@ module _ {M : Type 1} {𝓤 : Ura M} (𝓛 : Logic 𝓤) (at_mem : Memory → SP
         qed 𝓛 (‵ (row combining_row full_share ws b o) ∷ []) ∵
         lie_in ! combining_row 3 (block_ptr b o) h.count ws (same ∙ long) least few $
         handle_in ! (block_ptr b o) h.count h.combines (Combining ws) fits (kind ∙ is) $
-        rewrite ! 0 (λ (p : Ptr). ‵ (Handle.own_val (with p h.count h.combines (Combining ws)) words))
-        (sym at_b) refl $ done ! in
+        rewrite ! 0
+        (λ (p : Ptr). ‵ (Handle.own_val (with p h.count h.combines (Combining ws)) words)) (sym at_b) refl $ done ! in
         first ! $ blocks ! $
         sets ! (of_opd ! (load ! (through ! refl (fld ! refl (stop !)))
         (look_in ! 1 (sub ! 0 refl (whole !))))) refl (tt, tt) $
