@@ -62,14 +62,15 @@ FitsRoom lent Closed = 0 < length lent
 FitsRoom lent (Hears receiver) = (0 < length lent) × BelongsTo receiver.store lent
 FitsRoom lent Ended = 0 < length lent
 
--- such places, where this tells what lies in a room
-abbrev pub combining_place : {F : Type 0} → (F → List LentFamily)
+-- such places, where these tell what lies in a room, and which room it is
+abbrev pub combining_place : {F : Type 0} → (F → List LentFamily) → (F → F)
     → PlaceKind (CombiningPlaceView F)
-combining_place places = record {
+combining_place places vacant = record {
   is_hearing = λ place. state_hears place.state;
   is_closed = λ place. state_closed place.state;
   shut = λ place. combining_closed place.families;
   families = λ place. length (places place.families);
+  vacant = λ place. combining_closed (vacant place.families);
   printing = combined_holding;
   stands = λ held start place events log.
       StandsLent held start (places place.families) place.state events log;
