@@ -2,6 +2,7 @@
 pub mod Alone
 pub mod Closing
 pub mod Combine
+pub mod Counted
 pub mod Examples
 pub mod Hearing
 pub mod Held
