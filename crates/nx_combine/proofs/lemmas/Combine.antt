@@ -197,7 +197,8 @@ pub answers_joined : (limit : ℕ) (families held new : List Family) (heard : He
     × IfSome given (λ head. head.errors ≡ errors_of read)
     × (sendings_of (joined_by heard family) heard.copy ≡ sendings))
     → Answers limit families new heard read (Some index) false given sendings
-answers_joined limit families held new heard read index given sendings stands is joins joined gives =
+answers_joined limit families held new heard read index given sendings stands is joins joined
+    gives =
     let joins_it : index_joined_holding limit families heard ≡ Some index =
     sym (index_joined-take limit families heard)
     ∙ ap (λ l. index_joined_holding limit l heard) (sym stands) ∙ joins in

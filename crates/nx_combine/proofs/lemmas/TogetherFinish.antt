@@ -289,8 +289,8 @@ module _ (limit : ℕ) {M : Type 0} (content : M → List MemoryEntry) (start : 
       → PrintsHoldingToEnd limit start history (log ++ headed_list head (text_in new))
   all_done old new closed head ends is s =
       let all = all_judged old new closed head ends is s in
-      printed_to_end limit start history all.copies (log ++ headed_list head (text_in new)) all.heard
-      all.judged.printed
+      printed_to_end limit start history all.copies (log ++ headed_list head (text_in new))
+      all.heard all.judged.printed
 
   -- and the number of the last one is that of the receiver
   pub all_counted : (old new : CombiningReceiver M) (closed : CombinedTaker)

@@ -19,8 +19,8 @@ returns-clause-begun c = λ text selected.
       positions = c.args.positions.now;
       sendings = 1;
     }) fits.first fits.taken c.place_before-at.ensures c.min-self.ensures
-    (family_is c.begin.new.self.family head.identity head.moment c.args.positions.now 1 begun.identity
-    begun.moment begun.positions begun.sendings)
+    (family_is c.begin.new.self.family head.identity head.moment c.args.positions.now 1
+    begun.identity begun.moment begun.positions begun.sendings)
 
 pub returns-clause-printed : goal.returns-clause-printed
 returns-clause-printed c =
