@@ -48,8 +48,12 @@ renews entry other =
 abbrev pub is_last_known : MemoryEntry → List MemoryEntry → Bool
 is_last_known entry behind = not (list_any (λ other. renews entry other) behind)
 
+-- those entries that pass a test of them and of the entries behind them
+abbrev pub passing : (MemoryEntry → List MemoryEntry → Bool) → List MemoryEntry → List MemoryEntry
+passing test [] = []
+passing test (entry ∷ behind) =
+    (if test entry behind then entry ∷ [] else []) ++ passing test behind
+
 -- of some entries those behind which none of their identity stands less than 66 hours later
 abbrev pub last_known : List MemoryEntry → List MemoryEntry
-last_known [] = []
-last_known (entry ∷ behind) =
-    (if is_last_known entry behind then entry ∷ [] else []) ++ last_known behind
+last_known entries = passing is_last_known entries

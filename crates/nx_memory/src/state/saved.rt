@@ -150,7 +150,7 @@ impl Saved {
 }
 
 /// Whether none of its identity stands less than 66 hours later behind an entry.
-fn is_last_known(entry: &MemoryEntry, behind: &[MemoryEntry]) -> bool
+pub fn is_last_known(entry: &MemoryEntry, behind: &[MemoryEntry]) -> bool
     ensures { result ≡ is_last_known entry.now behind.now }
 {
     !is_renewed(entry, behind)
