@@ -17,6 +17,7 @@ pub mod Printed
 pub mod Ring
 pub mod Sendings
 pub mod Sent
+pub mod Sharing
 pub mod Silent
 pub mod Sure
 pub mod TakerBits

@@ -1,13 +1,13 @@
 -- From how many sendings the entry is put together that was printed last.
 use Rattle.std.proofs.Common.{◌≡◌, ℕ, Bool, true, false, List, [], ◌∷◌, ◌++◌, Option, None, Some}
-use Rattle.std.proofs.Common.{if◌then◌else◌, map, refl, sym, ap, ◌∙◌, subst}
+use Rattle.std.proofs.Common.{if◌then◌else◌, refl, sym, ap, ◌∙◌, subst}
 use Rattle.std.specs.Prelude.{IfSome}
 use Rattle.nx_memory.specs.declared.memories.entry.MemoryEntry.{MemoryEntry}
 use Rattle.nx_copies.specs.Events.{Event, Start, elements_among, first_setting, settings}
 use Rattle.nx_copies.specs.copies.FoundCopies.{TaggedCopy, headed_copy}
 use Rattle.nx_copies.specs.declared.entry.EntryHead.{EntryHead}
 use Rattle.nx_receiver.specs.Receiver.{headed_list}
-use Rattle.nx_combine.specs.CombinedHearing.{HaveAllBeenHeard, HaveBeenHeard, heard_by}
+use Rattle.nx_combine.specs.CombinedHearing.{HaveAllBeenHeard, heard_by}
 use Rattle.nx_combine.specs.CombinedPrinting.{HasPrintedLastHolding, PrintsLastHoldingToEnd}
 use Rattle.nx_combine.specs.CombinedPrinting.{if_printed_combined, is_printed_combined}
 use Rattle.nx_combine.specs.CombinedPrinting.{printed_combined}

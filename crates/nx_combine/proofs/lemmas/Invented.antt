@@ -54,8 +54,8 @@ split_where (Some x) (Some y) number is =
 
 -- A family that was replaced among the others.
 
-set_at : (families : List Family) (i : ℕ) (f g : Family) → slice_get (set families i f) i ≡ Some g
-    → f ≡ g
+pub set_at : (families : List Family) (i : ℕ) (f g : Family)
+    → slice_get (set families i f) i ≡ Some g → f ≡ g
 set_at [] i f g is = absurd (let contra : None ≡ Some g = is in cc)
 set_at (x ∷ families) zero f g is = let inside : Some f ≡ Some g = is in cc
 set_at (x ∷ families) (suc i) f g is = set_at families i f g is

@@ -43,7 +43,7 @@ pub find_as : {X : Type 0} (p q : X → Bool) (xs : List X) → ((x : X) → p x
 find_as p q [] alike = refl
 find_as p q (x ∷ xs) alike = ap₂ (λ b o. cond b (Some x) o) (alike x) (find_as p q xs alike)
 
-number_by : (one other : CombinedCopy) (number : ℕ) (own : Option ℕ) → one.family ≡ Some number
+pub number_by : (one other : CombinedCopy) (number : ℕ) (own : Option ℕ) → one.family ≡ Some number
     → other.family ≡ own → are_of_one_family one other ≡ is_of_number number other
 number_by one other number None is has = rw (is, has) refl
 number_by one other number (Some m) is has = rw (is, has) refl

@@ -1,4 +1,3 @@
-use Rattle.std.proofs.Common.{subst, sym}
 use Rattle.nx_combine.specs.CombinedReceiver.{receiver_in}
 use Rattle.nx_combine.proofs.lemmas.Counted.{counted_last}
 use Rattle.nx_combine.proofs.receiver_over.ReceiverOver.sendings.Goals as goal
