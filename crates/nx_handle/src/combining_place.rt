@@ -153,7 +153,10 @@ impl<F: FamilyRoom> KeptPlace for CombiningPlace<F> {
     }
 
     fn sendings(&self) -> u64 {
-        1
+        let CombiningState::Hears(receiver) = &self.state else {
+            return 0;
+        };
+        receiver.sendings()
     }
 
     ghost laws = { combining-laws F.places F.vacant };
