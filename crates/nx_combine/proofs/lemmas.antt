@@ -2,6 +2,7 @@
 pub mod Alone
 pub mod Closing
 pub mod Combine
+pub mod Counted
 pub mod Examples
 pub mod Hearing
 pub mod Held
@@ -9,12 +10,14 @@ pub mod Invented
 pub mod Joined
 pub mod Judged
 pub mod JudgedOn
+pub mod Leaving
 pub mod Noted
 pub mod Once
 pub mod Printed
 pub mod Ring
 pub mod Sendings
 pub mod Sent
+pub mod Sharing
 pub mod Silent
 pub mod Sure
 pub mod TakerBits

@@ -2,8 +2,11 @@
 -- contract (this profile). `held` is how many families are held.
 use Rattle.std.specs.Prelude.{◌≡◌, ℕ, Bool, List, [], Option, if◌then◌else◌}
 use Rattle.nx_code.specs.Lists.{last_of}
+use Rattle.nx_memory.specs.Content.{last_known}
 use Rattle.nx_memory.specs.Memory.{most_entries}
+use Rattle.nx_memory.specs.Saved.{SavedState}
 use Rattle.nx_memory.specs.declared.memories.entry.MemoryEntry.{MemoryEntry}
+use Rattle.nx_sync.specs.Locks.{IsNow, Lock, Now}
 use Rattle.nx_sync.specs.Synchroniser.{Held}
 use Rattle.nx_copies.specs.Events.{Event, Setting, Start, elements_among, first_setting}
 use Rattle.nx_copies.specs.Events.{setting_after_all, settings}
@@ -14,10 +17,10 @@ use Rattle.nx_copies.specs.hearing.CopyTaker.{hearer_of}
 use Rattle.nx_receiver.specs.ChannelReceiver.{ReceiverKind}
 use Rattle.nx_combine.specs.CombinedHearing.{CombinedOver, CombinedStands}
 use Rattle.nx_combine.specs.CombinedPrinting.{combined_holding, printed_combined}
-use Rattle.nx_combine.specs.CopyPositions.{HeardCopy}
+use Rattle.nx_combine.specs.CopyPositions.{HeardCopy, PlacedCopy, ended_placed, heard_copies}
 use Rattle.nx_combine.specs.Families.{combined_copies_holding, most_families}
 use Rattle.nx_combine.specs.Judging.{CombinerView, HeldFamilies, Judged, StandsHolding, all_copies}
-use Rattle.nx_combine.specs.Judging.{combiner_of}
+use Rattle.nx_combine.specs.Judging.{combiner_of, sendings_of_last}
 use Rattle.nx_envelope.specs.FinderView.{FinderView}
 use Rattle.nx_combine.specs.Judging.{judged_behind_holding}
 use Rattle.nx_combine.specs.declared.taker.CombinedTaker.{CombinedTaker}
@@ -27,12 +30,14 @@ abbrev pub judged_none : List MemoryEntry → Judged
 judged_none entries = record { entries = entries; families = []; printed = [] }
 
 -- what contracts see of a receiver that combines: its synchroniser, its taker, what judges, whether
--- the text of the entry that it handed out last is what a family gave, and its memory
+-- the text of the entry that it handed out last is what a family gave, from how many sendings that
+-- entry is put together, and its memory
 pub record CombiningReceiver (M : Type 0) : Type 0 where
   pub synchroniser : Held
   pub taker : CombinedTaker
   pub combiner : CombinerView
   pub is_given : Bool
+  pub sendings : ℕ
   pub memory : M
 
 -- what contracts see of such a receiver whose families lie anywhere: in place of what judges, what
@@ -43,6 +48,7 @@ pub record ReceiverOver (S M : Type 0) : Type 0 where
   pub store : S
   pub finder : FinderView
   pub is_given : Bool
+  pub sendings : ℕ
   pub memory : M
 
 -- the same with the families that are held, in this room
@@ -53,6 +59,7 @@ receiver_in held receiver places = record {
   taker = receiver.taker;
   combiner = combiner_of (held receiver.store places) receiver.finder;
   is_given = receiver.is_given;
+  sendings = receiver.sendings;
   memory = receiver.memory;
 }
 
@@ -63,6 +70,7 @@ receiver_held receiver = record {
   taker = receiver.taker;
   combiner = combiner_of receiver.store receiver.finder;
   is_given = receiver.is_given;
+  sendings = receiver.sendings;
   memory = receiver.memory;
 }
 
@@ -83,7 +91,8 @@ text_in receiver =
     else receiver.taker.copies.reader.finder.text
 
 -- After these copies, which begin with this start, this was printed of them, and the combiner and
--- the memory hold what they left. This tells the entries of a memory.
+-- the memory hold what they left, and the number of sendings that of the last that was printed.
+-- This tells the entries of a memory.
 pub record HasJudged (held : ℕ) {M : Type 0} (content : M → List MemoryEntry) (start : Start)
     (receiver : CombiningReceiver M) (copies : List HeardCopy) (log : List TaggedCopy) : Type 0
   where
@@ -96,6 +105,8 @@ pub record HasJudged (held : ℕ) {M : Type 0} (content : M → List MemoryEntry
     pub combiner : StandsHolding held receiver.combiner
         (judged_behind_holding held (judged_none start.entries) copies).families
         (judged_behind_holding held (judged_none start.entries) copies).printed
+    pub sendings : receiver.sendings
+        ≡ sendings_of_last (judged_behind_holding held (judged_none start.entries) copies).printed
 
 -- The receiver stands after these events, which begin with this start, and this is the log of what
 -- it handed out. Its synchroniser and its taker stand after the elements, with what is in force at
@@ -161,3 +172,30 @@ AwaitsAfterAll content = AwaitsAfterAllHolding most_families content
 abbrev pub combined_kind : {M : Type 0} → (M → List MemoryEntry)
     → ReceiverKind (CombiningReceiver M)
 combined_kind content = combined_kind_holding most_families content
+
+-- contracts see a memory that enters what it knows as its entries
+abbrev pub its_entries : List MemoryEntry → List MemoryEntry
+its_entries entries = entries
+
+-- all entries after the copies that were found: those with which a receiver starts, and those that
+-- are made of the combined copies
+abbrev pub entries_of_placed_holding : ℕ → Start → List Event → List PlacedCopy
+    → List MemoryEntry
+entries_of_placed_holding held start events copies =
+    (judged_behind_holding held (judged_none start.entries)
+    (heard_copies (first_setting start) events copies)).entries
+
+-- What a receiver leaves that is switched off after these events. First, the last 200 of all
+-- entries of the copies that have ended, but those behind which one of their identity stands less
+-- than 66 hours later. And second, what is refused after all commands. So a copy that stands open
+-- is no part of it, nor are families.
+pub record LeavesHolding (held : ℕ) (start : Start) (events : List Event) (left : SavedState)
+    : Type 0 where
+  pub locks : List Lock
+  pub now : Now
+  pub stands : IsNow (elements_among events) locks now
+  pub entries : left.entries
+      ≡ last_known (last_of most_entries
+      (entries_of_placed_holding held start events
+      (ended_placed (elements_among events) locks now)))
+  pub refused : left.refused ≡ (setting_after_all (first_setting start) events).refused

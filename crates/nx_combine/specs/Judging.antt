@@ -1,7 +1,7 @@
 -- What judges combined copies holds, and which copies leave it so (this profile). What is named
 -- `holding` takes first how many families are held; the same name without that word is its case of
 -- 200.
-use Rattle.std.specs.Prelude.{◌≡◌, ℕ, zero, suc, ◌-◌, ◌<◌, ◌==◌, Bool, false, if◌then◌else◌}
+use Rattle.std.specs.Prelude.{◌≡◌, ℕ, zero, suc, ◌<◌, ◌==◌, Bool, false, if◌then◌else◌}
 use Rattle.std.specs.Prelude.{List, [], ◌∷◌, ◌++◌, fold, length, map, take, Option, Some}
 use Rattle.std.specs.List.{AllByRecursion, find}
 use Rattle.std.specs.Option.{option_map, option_map_or}
@@ -39,6 +39,12 @@ last_printed before number =
 unfoldable pub all_last_printed : List CombinedCopy → ℕ → List (Option EntryHead)
 all_last_printed before zero = []
 all_last_printed before (suc number) = last_printed before number ∷ all_last_printed before number
+
+-- from how many sendings the last of these combined copies is put together, which stand newest
+-- first; 0 where there is none
+abbrev pub sendings_of_last : List CombinedCopy → ℕ
+sendings_of_last [] = 0
+sendings_of_last (one ∷ before) = one.sendings
 
 -- what copies left that were judged so far: the entries that were made, oldest first; and all
 -- families that were begun and the combined copies that were printed, newest first
