@@ -1,8 +1,9 @@
 -- Lemmas that several proofs cite.
 pub mod Places
+pub mod Plain
 pub mod Receivers
-pub mod Silent
 pub mod Heard
+pub mod Combining
 pub mod Begun
 pub mod New
 pub mod Moments
@@ -15,5 +16,6 @@ pub mod Numbers
 pub mod Opening
 pub mod Saving
 pub mod Selecting
+pub mod Sendings
 pub mod State
 pub mod Status

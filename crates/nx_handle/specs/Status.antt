@@ -10,7 +10,7 @@ use Rattle.nx_handle.specs.declared.status.Status.TheVariants.{BadCharacter, Res
 use Rattle.nx_handle.specs.declared.status.Status.TheVariants.{NoMessages, MixedStations, NoSlot, SlotFull}
 use Rattle.nx_handle.specs.declared.status.Status.TheVariants.{NoStation, WrongWord, Unpaired, BadEnvelope}
 use Rattle.nx_handle.specs.declared.status.Status.TheVariants.{Closed, AlreadyOpen, NoChannel, NoElement}
-use Rattle.nx_handle.specs.declared.status.Status.TheVariants.{NoSubject, NoEntry}
+use Rattle.nx_handle.specs.declared.status.Status.TheVariants.{NoSubject, NoEntry, TooManyFamilies}
 
 -- the number of a status
 abbrev pub number_of : Status → ℕ
@@ -52,3 +52,4 @@ number_of NoChannel = 34
 number_of NoElement = 35
 number_of NoSubject = 36
 number_of NoEntry = 37
+number_of TooManyFamilies = 38

@@ -83,10 +83,12 @@ pub enum Status {
     NoSubject = 36,
     /// The bytes begin with no entry.
     NoEntry = 37,
+    /// More families are asked for than a receiver can hold: of a receiver with a heap alone.
+    TooManyFamilies = 38,
 }
 
 /// All statuses, each at the place of its number.
-const STATUSES: [Status; 38] = [
+const STATUSES: [Status; 39] = [
     Status::Done,
     Status::NoRoom,
     Status::Read,
@@ -125,6 +127,7 @@ const STATUSES: [Status; 38] = [
     Status::NoElement,
     Status::NoSubject,
     Status::NoEntry,
+    Status::TooManyFamilies,
 ];
 
 impl Status {

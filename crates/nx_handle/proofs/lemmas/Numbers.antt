@@ -8,7 +8,7 @@ use Rattle.nx_handle.specs.Status.{number_of}
 use Rattle.nx_handle.specs.declared.status.Status.{Status}
 use Rattle.nx_handle.specs.declared.status.Status.TheVariants as status
 
-small-number : (one : Status) → number_of one ≤ 37
+small-number : (one : Status) → number_of one ≤ 38
 small-number status.Done = omega arith
 small-number status.NoRoom = omega arith
 small-number status.Read = omega arith
@@ -47,6 +47,7 @@ small-number status.NoChannel = omega arith
 small-number status.NoElement = omega arith
 small-number status.NoSubject = omega arith
 small-number status.NoEntry = omega arith
+small-number status.TooManyFamilies = omega arith
 
 -- each status stands at the place of its number, from one on
 abbrev pub Numbered : ℕ → List Status → Type 0
@@ -71,7 +72,7 @@ all-statuses =
     status.NoMessages ∷ status.MixedStations ∷ status.NoSlot ∷ status.SlotFull ∷
     status.NoStation ∷ status.WrongWord ∷ status.Unpaired ∷ status.BadEnvelope ∷ status.Closed ∷
     status.AlreadyOpen ∷ status.NoChannel ∷ status.NoElement ∷ status.NoSubject ∷
-    status.NoEntry ∷ []
+    status.NoEntry ∷ status.TooManyFamilies ∷ []
 
 pub all-numbered : Numbered 0 all-statuses
 all-numbered = (
@@ -150,7 +151,10 @@ all-numbered = (
                                                                           refl,
                                                                           (
                                                                             refl,
-                                                                            tt,
+                                                                            (
+                                                                              refl,
+                                                                              tt,
+                                                                            ),
                                                                           ),
                                                                         ),
                                                                       ),
@@ -191,7 +195,7 @@ all-numbered = (
 )
 
 pub status-at : (statuses : List Status) (number : ℕ) (found : Option (Bor Status))
-    → Numbered 0 statuses → length statuses ≡ 38 → IsItemAt statuses number found
+    → Numbered 0 statuses → length statuses ≡ 39 → IsItemAt statuses number found
     → MatchOption (option_copied found) ((one : Status) → number_of one ≢ number)
     (λ one. number_of one ≡ number)
 status-at statuses number None h all is = λ one e.
