@@ -1,7 +1,6 @@
 -- Lemmas that several proofs cite.
 pub mod Places
 pub mod Receivers
-pub mod Silent
 pub mod Heard
 pub mod Begun
 pub mod New

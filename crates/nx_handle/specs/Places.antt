@@ -1,36 +1,33 @@
 -- The places of a receiver's channels, one to three of them: those of channel 0, 1 and 2 (this
 -- profile).
-use Rattle.std.specs.Prelude.{◌<◌, Bool, true, false, List, length, Option, slice_get}
+use Rattle.std.specs.Prelude.{◌≡◌, ℕ, ◌<◌, Bool, List, length, map, Option, Some, slice_get}
 use Rattle.std.specs.List.{list_all}
 use Rattle.nx_fec.specs.air_files.Channels.{channel_number}
 use Rattle.nx_fec.specs.declared.air_files.channel.Channel.{Channel}
-use Rattle.nx_handle.specs.declared.places.Place.{Place}
-use Rattle.nx_handle.specs.declared.places.Place.TheVariants.{Closed, Hears, Ended}
-
--- the place of a channel that hears
-abbrev pub is_hearing : Place → Bool
-is_hearing Closed = false
-is_hearing (Hears receiver) = true
-is_hearing Ended = false
-
--- a place of a receiver that is closed
-abbrev pub is_closed : Place → Bool
-is_closed Closed = true
-is_closed (Hears receiver) = false
-is_closed Ended = false
+use Rattle.nx_handle.specs.PlaceKinds.{PlaceKind}
 
 -- the receiver hears
-abbrev pub all_hear : List Place → Bool
-all_hear places = list_all is_hearing places
+abbrev pub all_hear : {P : Type 0} → PlaceKind P → List P → Bool
+all_hear kind places = list_all kind.is_hearing places
 
 -- the receiver is closed
-abbrev pub all_closed : List Place → Bool
-all_closed places = list_all is_closed places
+abbrev pub all_closed : {P : Type 0} → PlaceKind P → List P → Bool
+all_closed kind places = list_all kind.is_closed places
 
 -- the receiver has the channel
-abbrev pub HasChannel : List Place → Channel → Type 0
+abbrev pub HasChannel : {P : Type 0} → List P → Channel → Type 0
 HasChannel places channel = channel_number channel < length places
 
 -- the place of a channel, where the receiver has the channel
-abbrev pub place_on : List Place → Channel → Option Place
+abbrev pub place_on : {P : Type 0} → List P → Channel → Option P
 place_on places channel = slice_get places (channel_number channel)
+
+-- each place has room for so many families
+abbrev pub HaveRoom : {P : Type 0} → PlaceKind P → ℕ → List P → Type 0
+HaveRoom {P} kind held places =
+    (channel : Channel) (place : P) → place_on places channel ≡ Some place
+    → kind.families place ≡ held
+
+-- each place has room for as many families as before
+abbrev pub KeepsRoom : {P : Type 0} → PlaceKind P → List P → List P → Type 0
+KeepsRoom kind old new = map kind.families new ≡ map kind.families old

@@ -11,9 +11,9 @@ use Rattle.nx_receiver.specs.declared.command.Command.{Command as TheCommand}
 use Rattle.nx_receiver.specs.declared.command.Command.TheVariants.{RefuseStation, AcceptStation, RefuseSubject, AcceptSubject}
 use Rattle.nx_copies.specs.copies.Shares.{Given, MarkedCopy, Starts}
 use Rattle.nx_handle.specs.Life.{HasHeard}
-use Rattle.nx_handle.specs.Places.{all_hear}
+use Rattle.nx_handle.specs.Places.{KeepsRoom, all_hear}
 use Rattle.nx_handle.specs.Status.{number_of}
-use Rattle.nx_handle.specs.declared.places.Place.{Place}
+use Rattle.nx_handle.specs.PlaceKinds.{PlaceKind}
 use Rattle.nx_handle.specs.declared.status.Status.{Status}
 use Rattle.nx_handle.specs.declared.status.Status.TheVariants as status
 
@@ -43,23 +43,24 @@ selecting_status asked true = asked
 
 -- A command is given to a channel that the receiver has. It hears, and goes on to hear: whatever
 -- was given before, it stands after the command too.
-pub record TakesCommand (command : Command) (channel : ℕ) (old new : List Place) : Type 0 where
+pub record TakesCommand {P : Type 0} (kind : PlaceKind P) (command : Command) (channel : ℕ)
+    (old new : List P) : Type 0 where
   pub on : Channel
   pub is : channel_number on ≡ channel
   pub has_channel : channel < length old
-  pub was : all_hear old ≡ true
-  pub now : all_hear new ≡ true
-  pub heard : (starts : Starts) (given : List Given) (copies : List MarkedCopy)
-      → HasHeard starts old given copies
-      → HasHeard starts new (then_command given on command) copies
+  pub was : all_hear kind old ≡ true
+  pub now : all_hear kind new ≡ true
+  pub heard : (held : ℕ) (starts : Starts) (given : List Given) (copies : List MarkedCopy)
+      → HasHeard kind held starts old given copies
+      → HasHeard kind held starts new (then_command given on command) copies
 
 -- Selecting: the status has its cause; where all is done, the command is given to the channel; else
--- the receiver stays as it was. Its channels stay.
-pub record AnswersSelecting (asked : Status) (command : Command) (channel : ℕ)
-    (old new : List Place)
-    (answer : ℕ)
+-- the receiver stays as it was. Its channels stay, and so does the room for their families.
+pub record AnswersSelecting {P : Type 0} (kind : PlaceKind P) (asked : Status) (command : Command)
+    (channel : ℕ) (old new : List P) (answer : ℕ)
     : Type 0 where
-  pub cause : answer ≡ number_of (selecting_status asked (all_hear old))
-  pub done : answer ≡ 0 → TakesCommand command channel old new
+  pub cause : answer ≡ number_of (selecting_status asked (all_hear kind old))
+  pub done : answer ≡ 0 → TakesCommand kind command channel old new
   pub refused : answer ≢ 0 → new ≡ old
   pub channels : length new ≡ length old
+  pub rooms : KeepsRoom kind old new

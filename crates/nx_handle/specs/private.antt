@@ -4,3 +4,6 @@ pub mod Hearing
 pub mod Opening
 pub mod Receivers
 pub mod Saving
+pub mod CombiningPlaces
+pub mod PlainPlaces
+pub mod CombiningLaws

@@ -1,17 +1,17 @@
 //! Closing a receiver.
 
-ghost use Rattle.std.specs.Prelude.{◌≡◌, ◌≤◌, ◌∷◌, List, [], length, true, false};
+ghost use Rattle.std.specs.Prelude.{◌≡◌, ◌≤◌, ◌∷◌, List, [], length, map, true, false};
 ghost use Rattle.nx_copies.specs.copies.FoundCopies.{TaggedCopy};
 ghost use Rattle.nx_copies.specs.copies.Shares.{MarkedCopy, marked};
 ghost use Rattle.nx_handle.specs.Closing.{AnswersClosing};
 ghost use Rattle.nx_handle.specs.Life.{EndPrints, EndsWith};
 ghost use Rattle.nx_handle.specs.private.Hearing.{CopiesEntryOut};
-ghost use Rattle.nx_handle.specs.Places.{all_closed, all_hear};
+ghost use Rattle.nx_handle.specs.Places.{KeepsRoom, all_closed, all_hear};
 ghost use Rattle.nx_handle.specs.CallerRoom.{room};
-ghost use Rattle.nx_handle.specs.declared.places.Place.TheVariants.{Ended};
 
 use crate::caller_room::{copy_entry_out, copy_out};
-use crate::places::{Place, are_closed, channel_at, close_all};
+use crate::kept_place::KeptPlace;
+use crate::places::{are_closed, channel_at, close_all};
 use crate::status::Status;
 use nx_copies::MAX_ENTRY;
 use nx_fec::Channel;
@@ -22,9 +22,10 @@ use nx_fec::Channel;
 ///
 /// `Closed` where the receiver is closed; else `NoRoom` where there is no room for the largest
 /// entry, so that none is lost; else `Done`. Where it isn't `Done`, the receiver stays as it was.
-pub fn close(places: &mut [Place], log: &mut [u8], written: &mut usize) -> u32
+pub fn close<P: KeptPlace>(places: &mut [P], log: &mut [u8], written: &mut usize) -> u32
     requires few { length places.old ≤ 3 }
-    ensures { AnswersClosing places.old places.new (room log.old log.new written.new) result }
+    ensures { AnswersClosing P.kind places.old places.new (room log.old log.new written.new)
+        result }
 {
     if are_closed(places) {
         copy_out(&[], log, written);
@@ -44,15 +45,17 @@ pub fn close(places: &mut [Place], log: &mut [u8], written: &mut usize) -> u32
 
 /// Ends the channels that have not ended, in order, up to and with the first whose end prints an
 /// entry, which is copied into the caller's room: says whether there is one.
-fn end_next(places: &mut [Place], log: &mut [u8], written: &mut usize) -> bool
+fn end_next<P: KeptPlace>(places: &mut [P], log: &mut [u8], written: &mut usize) -> bool
     requires few { length places.old ≤ 3 }
     ensures printed { result ≡ true → (copy : MarkedCopy)
         × CopiesEntryOut copy (room log.old log.new written.new)
-        × ((left : List MarkedCopy) → EndsWith places.new left → EndsWith places.old (copy ∷ left)) }
+        × ((left : List MarkedCopy) → EndsWith P.kind places.new left
+        → EndsWith P.kind places.old (copy ∷ left)) }
     ensures ended { result ≡ true
-        → (all_hear places.new ≡ false) × (all_closed places.new ≡ false) }
-    ensures silent { result ≡ false → EndsWith places.old [] × (log.new ≡ log.old) }
+        → (all_hear P.kind places.new ≡ false) × (all_closed P.kind places.new ≡ false) }
+    ensures silent { result ≡ false → EndsWith P.kind places.old [] × (log.new ≡ log.old) }
     ensures channels { length places.new ≡ length places.old }
+    ensures rooms { KeepsRoom P.kind places.old places.new }
 {
     for at in 0..places.len() {
         if end_at(&mut places[at], channel_at(at), log, written) {
@@ -64,30 +67,39 @@ fn end_next(places: &mut [Place], log: &mut [u8], written: &mut usize) -> bool
 
 /// Ends a channel in its place, where it hears: says whether that prints an entry, which is copied
 /// into the caller's room.
-fn end_at(place: &mut Place, channel: Channel, log: &mut [u8], written: &mut usize) -> bool
+fn end_at<P: KeptPlace>(
+    place: &mut P,
+    channel: Channel,
+    log: &mut [u8],
+    written: &mut usize,
+) -> bool
     ensures printed { result ≡ true → (copy : TaggedCopy)
         × CopiesEntryOut (marked channel copy) (room log.old log.new written.new)
-        × EndPrints place.old (copy ∷ []) }
-    ensures silent { result ≡ false → EndPrints place.old [] × (log.new ≡ log.old) }
-    ensures ended { place.new ≡ Ended }
+        × EndPrints P.kind place.old (copy ∷ []) }
+    ensures silent { result ≡ false → EndPrints P.kind place.old [] × (log.new ≡ log.old) }
+    ensures ended { (P.kind.is_hearing place.new ≡ false) × (P.kind.is_closed place.new ≡ false) }
+    ensures room { P.kind.families place.new ≡ P.kind.families place.old }
 {
-    let Place::Hears(receiver) = place else {
-        *place = Place::Ended;
+    if !place.is_hearing() {
+        place.leave();
+        return false;
+    }
+    let Some(head) = place.end() else {
+        place.leave();
         return false;
     };
-    let Some(head) = receiver.end() else {
-        *place = Place::Ended;
-        return false;
-    };
-    copy_entry_out(&head, receiver.text(), channel, log, written);
-    *place = Place::Ended;
+    copy_entry_out(&head, place.text(), channel, log, written);
+    place.leave();
     true
 }
 
-/// Closes a receiver, and prints nothing. One that is closed stays so.
-pub fn abandon(places: &mut [Place])
-    ensures closed { all_closed places.new ≡ true }
+/// Closes a receiver, and prints nothing; the room of its places stays. One that is closed stays
+/// so.
+pub fn abandon<P: KeptPlace>(places: &mut [P])
+    ensures shut { places.new ≡ map P.kind.shut places.old }
+    ensures closed { all_closed P.kind places.new ≡ true }
     ensures channels { length places.new ≡ length places.old }
+    ensures rooms { KeepsRoom P.kind places.old places.new }
 {
     close_all(places);
 }

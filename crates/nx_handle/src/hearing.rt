@@ -1,20 +1,17 @@
 //! Hearing elements.
 
-ghost use Rattle.std.specs.Prelude.{◌≡◌, ◌≢◌, ◌<◌, ◌≤◌, [], length, IfErr, IfOk, OnOk, true};
+ghost use Rattle.std.specs.Prelude.{◌≡◌, ◌≢◌, ◌<◌, ◌≤◌, [], length, IfErr, IfOk, OnOk};
 ghost use Rattle.std.specs.List.{list_all};
 ghost use Rattle.nx_fec.specs.air_files.Channels.{channel_number};
 ghost use Rattle.nx_handle.specs.Hearing.{AnswersHearing, is_element, request_status};
-ghost use Rattle.nx_handle.specs.private.Hearing.{HearsAndCopiesOut, HearsOn};
-ghost use Rattle.nx_handle.specs.Places.{is_hearing};
-ghost use Rattle.nx_handle.specs.Receivers.{OneReceiver};
 ghost use Rattle.nx_handle.specs.CallerRoom.{IsCopiedOut, room};
 ghost use Rattle.nx_handle.specs.Status.{number_of};
-ghost use Rattle.nx_handle.specs.declared.places.Place.TheVariants.{Hears};
 ghost use Rattle.nx_handle.specs.declared.status.Status.TheVariants.{Done};
 
 use crate::caller_room::copy_out;
+use crate::kept_place::KeptPlace;
 use crate::pieces::hear_all;
-use crate::places::{Place, all_hear, channel_of};
+use crate::places::{all_hear, channel_of};
 use crate::status::Status;
 use nx_copies::MAX_ENTRY;
 use nx_fec::Channel;
@@ -28,8 +25,8 @@ use nx_fec::Channel;
 /// channel of this number; else `NoElement` where a byte is none of an element; else `NoRoom` where
 /// there is no room for the largest entry, so that none is lost; else `Done`. Where it isn't
 /// `Done`, nothing is heard, and nothing is copied.
-pub fn hear(
-    places: &mut [Place],
+pub fn hear<P: KeptPlace>(
+    places: &mut [P],
     channel: u8,
     elements: &[u8],
     heard: &mut usize,
@@ -37,7 +34,7 @@ pub fn hear(
     written: &mut usize,
 ) -> u32
     requires few { length places.old ≤ 3 }
-    ensures { AnswersHearing channel elements.now places.old places.new heard.new
+    ensures { AnswersHearing P.kind channel elements.now places.old places.new heard.new
         (room log.old log.new written.new) result }
 {
     *heard = 0;
@@ -49,7 +46,7 @@ pub fn hear(
         Err(status) => return refuse(status, log, written),
     };
     let place = &mut places[usize::from(channel.number())];
-    *heard = hear_at(place, channel, elements, log, written);
+    *heard = hear_all(place, channel, elements, log, written);
     0
 }
 
@@ -60,27 +57,6 @@ fn refuse(status: Status, log: &mut [u8], written: &mut usize) -> u32
 {
     copy_out(&[], log, written);
     status.number()
-}
-
-/// Hears elements of a channel in its place, and copies what they print into the caller's room;
-/// says how many it heard.
-fn hear_at(
-    place: &mut Place,
-    channel: Channel,
-    elements: &[u8],
-    log: &mut [u8],
-    written: &mut usize,
-) -> usize
-    requires { is_hearing place.old ≡ true }
-    ensures { (receiver : OneReceiver) × (after : OneReceiver)
-        × (place.old ≡ Hears receiver) × (place.new ≡ Hears after)
-        × HearsAndCopiesOut (HearsOn channel receiver after) elements.now result
-        (room log.old log.new written.new) }
-{
-    let Place::Hears(receiver) = place else {
-        unreachable!()
-    };
-    hear_all(receiver, channel, elements, log, written)
 }
 
 /// The channel of this number, of so many, on which these elements can be heard with room for so

@@ -1,56 +1,53 @@
 //! Opening a receiver, and setting its moment.
 
-ghost use Rattle.std.specs.Prelude.{◌≡◌, ◌<◌, ◌≤◌, [], length, IfErr, OnErr, OnOk, true};
-ghost use Rattle.nx_envelope.specs.Moment.{last_moment};
-ghost use Rattle.nx_memory.specs.Memory.{newest_moment};
-ghost use Rattle.nx_copies.specs.Events.{Start, none_refused};
+ghost use Rattle.std.specs.Prelude.{◌≡◌, ◌<◌, ◌≤◌, ℕ, [], length, IfErr, OnOk, true};
+ghost use Rattle.nx_copies.specs.Events.{none_refused};
 ghost use Rattle.nx_copies.specs.copies.Shares.{all_at_zero};
-ghost use Rattle.nx_receiver.specs.Moments.{Refuses};
-ghost use Rattle.nx_receiver.specs.Receiver.{Stands};
 ghost use Rattle.nx_handle.specs.Life.{HasHeard};
-ghost use Rattle.nx_handle.specs.private.Moments.{HasTaken, MomentsTaken, RefusesNext};
+ghost use Rattle.nx_handle.specs.PlaceKinds.{HasBegun, start_with};
+ghost use Rattle.nx_handle.specs.private.Moments.{MomentsTaken, RefusesNext};
 ghost use Rattle.nx_handle.specs.Opening.{AnswersMoment, AnswersOpening};
-ghost use Rattle.nx_handle.specs.private.Opening.{moment_told};
-ghost use Rattle.nx_handle.specs.Places.{all_hear};
-ghost use Rattle.nx_handle.specs.Receivers.{OneReceiver, content};
-ghost use Rattle.nx_handle.specs.declared.places.Place.TheVariants.{Hears};
+ghost use Rattle.nx_handle.specs.private.Opening.{ShutSame, moment_told};
+ghost use Rattle.nx_handle.specs.Places.{HaveRoom, all_hear};
 
-use crate::places::{Place, all_hear, are_closed, close_all};
+use crate::kept_place::KeptPlace;
+use crate::places::{all_hear, are_closed, close_all};
 use crate::status::Status;
 use nx_memory::{PlainRecall, Selection};
-use nx_receiver::{MomentFault, Receiver};
-use std::mem;
+use nx_receiver::MomentFault;
 
 /// Opens a receiver at a moment, in whole seconds since 1970-01-01 00:00:00 UTC: it has heard
 /// nothing, remembers nothing, and everything is selected.
 ///
 /// `AlreadyOpen` where it is open; else `MomentRange` where the moment is past the year 2999; else
 /// `Done`. Where it isn't `Done`, the receiver stays as it was.
-pub fn open(places: &mut [Place], moment: u64) -> u32
+pub fn open<P: KeptPlace>(places: &mut [P], moment: u64) -> u32
     requires some { 0 < length places.old }
     requires few { length places.old ≤ 3 }
-    ensures { AnswersOpening moment places.old places.new result }
+    ensures { AnswersOpening P.kind moment places.old places.new result }
 {
     if !are_closed(places) {
         return Status::AlreadyOpen.number();
     }
     begin_new(places);
-    let status = set_moment(places, moment);
-    if status == Status::Done.number() {
-        return status;
+    match set_moments(places, moment) {
+        Ok(()) => 0,
+        Err(fault) => {
+            close_all(places);
+            moment_told(fault).number()
+        }
     }
-    close_all(places);
-    status
 }
 
 /// Opens a receiver that starts with nothing, and has heard nothing. It is built in its places,
 /// channel by channel: each move of one would take as much of the stack.
-fn begin_new(places: &mut [Place])
+fn begin_new<P: KeptPlace>(places: &mut [P])
     requires some { 0 < length places.old }
     requires few { length places.old ≤ 3 }
-    ensures begun { HasHeard all_at_zero places.new [] [] }
-    ensures hear { all_hear places.new ≡ true }
-    ensures channels { length places.new ≡ length places.old }
+    ensures begun { (held : ℕ) → HaveRoom P.kind held places.old
+        → HasHeard P.kind held all_at_zero places.new [] [] }
+    ensures hear { all_hear P.kind places.new ≡ true }
+    ensures shut { ShutSame P.kind places.old places.new }
 {
     for at in 0..places.len() {
         begin_new_at(&mut places[at]);
@@ -60,38 +57,11 @@ fn begin_new(places: &mut [Place])
 /// Gives a channel a receiver that starts with nothing at moment 0, and has heard nothing.
 // A call, so that its stack is free again before the next channel.
 #[inline(never)]
-fn begin_new_at(place: &mut Place)
-    ensures { (receiver : OneReceiver) × (place.new ≡ Hears receiver)
-        × ((start : Start) → start.entries ≡ [] → start.moment ≡ 0
-        → start.refused ≡ none_refused → Stands content start receiver [] []) }
+fn begin_new_at<P: KeptPlace>(place: &mut P)
+    ensures { HasBegun P.kind place.old place.new (start_with [] 0 none_refused) }
 {
-    let Ok(receiver) = Receiver::starting(PlainRecall::new(), 0, Selection::all()) else {
-        unreachable!()
-    };
-    *place = Place::Hears(receiver);
-}
-
-/// Gives a channel a receiver that starts at this moment with the entries of this memory, which is
-/// left without any, and with this selection, and has heard nothing.
-// A call as well. The memory comes by reference, since a value that is given takes a second place.
-#[inline(never)]
-pub(crate) fn begin_at(
-    place: &mut Place,
-    memory: &mut PlainRecall,
-    moment: u64,
-    selection: Selection,
-)
-    requires newest { newest_moment memory.old ≤ moment }
-    requires range { moment ≤ last_moment }
-    ensures { (receiver : OneReceiver) × (place.new ≡ Hears receiver)
-        × ((start : Start) → start.entries ≡ memory.old → start.moment ≡ moment
-        → start.refused ≡ selection → Stands content start receiver [] []) }
-{
-    let entries = mem::replace(memory, PlainRecall::new());
-    let Ok(receiver) = Receiver::starting(entries, moment, selection) else {
-        unreachable!()
-    };
-    *place = Place::Hears(receiver);
+    let mut memory = PlainRecall::new();
+    place.begin(&mut memory, 0, Selection::all());
 }
 
 /// Sets the moment from here on, of all channels.
@@ -99,10 +69,11 @@ pub(crate) fn begin_at(
 /// `Closed` where the receiver is closed, or its end has begun; else `MomentRange` where the moment
 /// is past the year 2999; else `MomentBack` where it is before the one in force; else `Done`. Where
 /// it isn't `Done`, the receiver stays as it was.
-pub fn set_moment(places: &mut [Place], moment: u64) -> u32
+pub fn set_moment<P: KeptPlace>(places: &mut [P], moment: u64) -> u32
     requires some { 0 < length places.old }
     requires few { length places.old ≤ 3 }
-    ensures { AnswersMoment moment places.old places.new result (all_hear places.old) }
+    ensures { AnswersMoment P.kind moment places.old places.new result
+        (all_hear P.kind places.old) }
 {
     if !all_hear(places) {
         return Status::Closed.number();
@@ -113,32 +84,20 @@ pub fn set_moment(places: &mut [Place], moment: u64) -> u32
     }
 }
 
-/// Sets the moment of each channel that hears, up to the first that refuses it.
-fn set_moments(places: &mut [Place], moment: u64) -> Result<(), MomentFault>
-    ensures taken { OnOk result (MomentsTaken moment places.old places.new (length places.old)) }
-    ensures refused { IfErr result (RefusesNext moment places.old places.new) }
+/// Sets the moment of each channel, all of which hear, up to the first that refuses it.
+fn set_moments<P: KeptPlace>(places: &mut [P], moment: u64) -> Result<(), MomentFault>
+    requires { all_hear P.kind places.old ≡ true }
+    ensures taken { OnOk result
+        (MomentsTaken P.kind moment places.old places.new (length places.old)) }
+    ensures refused { IfErr result (RefusesNext P.kind moment places.old places.new) }
 {
     for at in 0..places.len() {
-        match set_moment_at(&mut places[at], moment) {
+        match places[at].set_moment(moment) {
             Ok(()) => {}
             Err(fault) => return Err(fault),
         }
     }
     Ok(())
-}
-
-/// Sets the moment of a channel, where it hears.
-fn set_moment_at(place: &mut Place, moment: u64) -> Result<(), MomentFault>
-    ensures taken { OnOk result ((receiver : OneReceiver) → place.old ≡ Hears receiver
-        → HasTaken moment receiver place.new) }
-    ensures refused { IfErr result (λ fault. (receiver : OneReceiver)
-        × (place.old ≡ Hears receiver) × Refuses receiver.hearer.moment moment fault) }
-    ensures unchanged { OnErr result (place.new ≡ place.old) }
-{
-    let Place::Hears(receiver) = place else {
-        return Ok(());
-    };
-    receiver.set_moment(moment)
 }
 
 /// The status that the fault of a moment tells.

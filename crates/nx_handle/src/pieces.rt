@@ -1,40 +1,39 @@
 //! Hearing elements, piece by piece.
 
-ghost use Rattle.std.specs.Prelude.{◌≡◌, ◌≤◌, length};
+ghost use Rattle.std.specs.Prelude.{◌≡◌, ◌≤◌, length, true};
 ghost use Rattle.nx_fec.specs.air_files.AirFile.{element_digit};
 ghost use Rattle.nx_handle.specs.CallerRoom.{room};
 ghost use Rattle.nx_handle.specs.Hearing.{element_of, elements_of};
 ghost use Rattle.nx_handle.specs.private.Hearing.{HearsAndCopiesOut, HearsOn};
 
 use crate::caller_room::{copy_entry_out, copy_out};
+use crate::kept_place::KeptPlace;
 use nx_fec::{Channel, PackedElements};
-use nx_memory::PlainRecall;
-use nx_receiver::Receiver;
 
 /// The most elements of a piece.
 const MAX_PIECE: usize = 512;
 
-/// Hears elements of a channel with its receiver, up to and with the one that ends the first copy
-/// that is printed, and copies the bytes of its entry into the caller's room; says how many it
-/// heard.
-pub(crate) fn hear_all(
-    receiver: &mut Receiver<PlainRecall>,
+/// Hears elements of a channel in its place, up to and with the one that ends the first copy that
+/// is printed, and copies the bytes of its entry into the caller's room; says how many it heard.
+pub(crate) fn hear_all<P: KeptPlace>(
+    place: &mut P,
     channel: Channel,
     elements: &[u8],
     log: &mut [u8],
     written: &mut usize,
 ) -> usize
-    ensures { HearsAndCopiesOut (HearsOn channel receiver.old receiver.new) elements.now result
+    requires { P.kind.is_hearing place.old ≡ true }
+    ensures { HearsAndCopiesOut (HearsOn P.kind channel place.old place.new) elements.now result
         (room log.old log.new written.new) }
 {
     let mut heard = 0;
     while heard < elements.len() {
         let end = elements.len().min(heard.saturating_add(MAX_PIECE));
         let packed = pack(&elements[heard..end]);
-        let (count, head) = receiver.next_printed(&packed, 0);
+        let (count, head) = place.next_printed(&packed, 0);
         heard += count;
         if let Some(head) = head {
-            copy_entry_out(&head, receiver.text(), channel, log, written);
+            copy_entry_out(&head, place.text(), channel, log, written);
             return heard;
         }
     }

@@ -1,63 +1,32 @@
 //! The places of a receiver's channels.
 
-ghost use Rattle.std.specs.Prelude.{◌≡◌, ◌<◌, ◌≤◌, length, MatchOption, true};
+ghost use Rattle.std.specs.Prelude.{◌≡◌, ◌<◌, ◌≤◌, length, map, MatchOption};
 ghost use Rattle.nx_fec.specs.air_files.Channels.{channel_number};
-ghost use Rattle.nx_handle.specs.Places.{all_closed, all_hear, is_closed, is_hearing};
+ghost use Rattle.nx_handle.specs.Places.{all_closed, all_hear};
 
+use crate::kept_place::KeptPlace;
 use nx_fec::Channel;
-use nx_memory::PlainRecall;
-use nx_receiver::Receiver;
-
-/// The place of a channel of a receiver, which it has between two calls. A receiver has one to
-/// three of them, side by side: those of channel 0, 1 and 2. It hears while each of them hears;
-/// closing ends them one by one.
-#[derive(Drop)]
-pub enum Place {
-    /// The receiver is closed.
-    Closed,
-    /// The channel hears, with a receiver of its own.
-    Hears(Receiver<PlainRecall>),
-    /// The end of the channel has come.
-    Ended,
-}
-
-impl Place {
-    /// Whether the channel hears.
-    fn is_hearing(&self) -> bool
-        ensures { result ≡ is_hearing self.now }
-    {
-        matches!(self, Place::Hears(_))
-    }
-
-    /// Whether the place is one of a receiver that is closed.
-    fn is_closed(&self) -> bool
-        ensures { result ≡ is_closed self.now }
-    {
-        matches!(self, Place::Closed)
-    }
-}
 
 /// Whether each channel hears.
-pub(crate) fn all_hear(places: &[Place]) -> bool
-    ensures { result ≡ all_hear places.now }
+pub(crate) fn all_hear<P: KeptPlace>(places: &[P]) -> bool
+    ensures { result ≡ all_hear P.kind places.now }
 {
     places.iter().all(|place| place.is_hearing())
 }
 
 /// Whether the receiver is closed.
-pub fn are_closed(places: &[Place]) -> bool
-    ensures { result ≡ all_closed places.now }
+pub fn are_closed<P: KeptPlace>(places: &[P]) -> bool
+    ensures { result ≡ all_closed P.kind places.now }
 {
     places.iter().all(|place| place.is_closed())
 }
 
-/// Closes the receiver, and prints nothing.
-pub(crate) fn close_all(places: &mut [Place])
-    ensures closed { all_closed places.new ≡ true }
-    ensures channels { length places.new ≡ length places.old }
+/// Closes the receiver, and prints nothing; the room of its places stays.
+pub(crate) fn close_all<P: KeptPlace>(places: &mut [P])
+    ensures { places.new ≡ map P.kind.shut places.old }
 {
     for place in places.iter_mut() {
-        *place = Place::Closed;
+        place.shut();
     }
 }
 

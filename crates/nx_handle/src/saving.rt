@@ -1,6 +1,6 @@
 //! Saving a receiver, and opening one from what is saved.
 
-ghost use Rattle.std.specs.Prelude.{◌≡◌, ◌<◌, ◌≤◌, ◌↔◌, ◌∷◌, ◌++◌, [], length, IfErr, IfOk, IsTrue, List, None, OnOk, Some};
+ghost use Rattle.std.specs.Prelude.{◌≡◌, ◌<◌, ◌≤◌, ◌↔◌, ◌∷◌, ◌++◌, ℕ, [], length, IfErr, IfOk, IsTrue, List, None, OnErr, OnOk, Some};
 ghost use Rattle.nx_envelope.specs.Moment.{last_moment};
 ghost use Rattle.nx_fec.specs.air_files.Channels.{channel_number};
 ghost use Rattle.nx_fec.specs.declared.air_files.channel.Channel.{Channel as TheChannel};
@@ -11,20 +11,18 @@ ghost use Rattle.nx_memory.specs.Memory.{newest_moment};
 ghost use Rattle.nx_memory.specs.Saved.{AreSavedStates, nothing_saved};
 ghost use Rattle.nx_memory.specs.Selection.{IsRefusable};
 ghost use Rattle.nx_memory.specs.StateText.{IsStateText};
-ghost use Rattle.nx_receiver.specs.Receiver.{Stands};
-ghost use Rattle.nx_receiver.specs.air_file_runs.Chain.{Leaves};
 ghost use Rattle.nx_receiver.specs.air_file_runs.State.{BeginsWith, state_bytes};
 ghost use Rattle.nx_handle.specs.Life.{HasHeard};
-ghost use Rattle.nx_handle.specs.Places.{place_on};
+ghost use Rattle.nx_handle.specs.PlaceKinds.{HasBegun, start_with};
+ghost use Rattle.nx_handle.specs.Places.{HaveRoom, place_on};
 ghost use Rattle.nx_handle.specs.Saving.{AnswersOpeningFrom, AnswersSaving, HasNoMore, HasNothing, RefusesLetter, RefusesNone, RefusesState, RefusesText};
-ghost use Rattle.nx_handle.specs.private.Saving.{IsFirstLine, RefusesEnd, StandsNext, start_with};
+ghost use Rattle.nx_handle.specs.private.Opening.{ShutSame};
+ghost use Rattle.nx_handle.specs.private.Saving.{IsFirstLine, RefusesEnd, StandsNext};
 ghost use Rattle.nx_handle.specs.CallerRoom.{IsCopiedOut, room};
-ghost use Rattle.nx_handle.specs.Receivers.{OneReceiver, content};
-ghost use Rattle.nx_handle.specs.declared.places.Place.TheVariants.{Hears};
 
 use crate::caller_room::{after_copying_out, copy_more_out, copy_out};
-use crate::opening::begin_at;
-use crate::places::{Place, all_hear, are_closed, channel_at, close_all};
+use crate::kept_place::KeptPlace;
+use crate::places::{all_hear, are_closed, channel_at, close_all};
 use crate::status::Status;
 use nx_envelope::Letter;
 use nx_fec::Channel;
@@ -37,8 +35,8 @@ use nx_memory::{MAX_STATE_LINE, PlainRecall, Saved, SavedSet, Selection, StateRe
 /// `Closed` where the receiver is closed, or its end has begun; then nothing is copied. Else
 /// `NoRoom` where there is no room for all of the text, whose first bytes stand in the room then;
 /// else `Done`. `written` is the length of the whole text. The receiver stays as it was.
-pub fn save(places: &[Place], state: &mut [u8], written: &mut usize) -> u32
-    ensures { AnswersSaving places.now places.now (room state.old state.new written.new) result }
+pub fn save<P: KeptPlace>(places: &[P], state: &mut [u8], written: &mut usize) -> u32
+    ensures { AnswersSaving P.kind places.now places.now (room state.old state.new written.new) result }
 {
     if !all_hear(places) {
         copy_out(&[], state, written);
@@ -51,11 +49,12 @@ pub fn save(places: &[Place], state: &mut [u8], written: &mut usize) -> u32
 /// What the channels leave.
 // Built in the place of its caller.
 #[inline(always)]
-fn left_by(places: &[Place]) -> SavedSet
-    ensures leaves { (channel : TheChannel) (receiver : OneReceiver)
-        → place_on places.now channel ≡ Some (Hears receiver)
-        → (start : Start) (history : List Event) (log : List TaggedCopy)
-        → Stands content start receiver history log → Leaves start history (saved_of result channel) }
+fn left_by<P: KeptPlace>(places: &[P]) -> SavedSet
+    ensures leaves { (channel : TheChannel) (place : P)
+        → place_on places.now channel ≡ Some place
+        → (held : ℕ) (start : Start) (history : List Event) (log : List TaggedCopy)
+        → P.kind.stands held start place history log
+        → P.kind.leaves held start history (saved_of result channel) }
     ensures others { (channel : TheChannel) → place_on places.now channel ≡ None
         → saved_of result channel ≡ nothing_saved }
 {
@@ -69,16 +68,15 @@ fn left_by(places: &[Place]) -> SavedSet
 /// What a channel leaves; nothing where the receiver doesn't have it.
 // Built in the place of its caller too.
 #[inline(always)]
-fn left_on(places: &[Place], channel: Channel) -> Saved
-    ensures leaves { (receiver : OneReceiver)
-        → place_on places.now channel ≡ Some (Hears receiver)
-        → (start : Start) (history : List Event) (log : List TaggedCopy)
-        → Stands content start receiver history log → Leaves start history result }
+fn left_on<P: KeptPlace>(places: &[P], channel: Channel) -> Saved
+    ensures leaves { (place : P) → place_on places.now channel ≡ Some place
+        → (held : ℕ) (start : Start) (history : List Event) (log : List TaggedCopy)
+        → P.kind.stands held start place history log → P.kind.leaves held start history result }
     ensures others { place_on places.now channel ≡ None → result ≡ nothing_saved }
 {
     match places.get(usize::from(channel.number())) {
-        Some(Place::Hears(receiver)) => receiver.saved(),
-        _ => Saved::new(),
+        Some(place) => place.saved(),
+        None => Saved::new(),
     }
 }
 
@@ -104,10 +102,10 @@ fn copy_state_out(states: &SavedSet, space: &mut [u8], written: &mut usize)
 /// `StateCut` where the bytes end before the state; else `NoChannel` where the state has anything
 /// of a channel that the receiver doesn't have; else `Done`. Where it isn't `Done`, the receiver
 /// stays as it was.
-pub fn open_from(places: &mut [Place], state: &[u8]) -> u32
+pub fn open_from<P: KeptPlace>(places: &mut [P], state: &[u8]) -> u32
     requires some { 0 < length places.old }
     requires few { length places.old ≤ 3 }
-    ensures { AnswersOpeningFrom state.now places.old places.new result }
+    ensures { AnswersOpeningFrom P.kind state.now places.old places.new result }
 {
     if !are_closed(places) {
         return Status::AlreadyOpen.number();
@@ -123,13 +121,15 @@ pub fn open_from(places: &mut [Place], state: &[u8]) -> u32
 
 /// Gives each channel a receiver that starts with the state with which these bytes begin, and has
 /// heard nothing. Or the status that says why they begin with no state of these channels.
-fn begin_all(places: &mut [Place], state: &[u8]) -> Result<(), Status>
+fn begin_all<P: KeptPlace>(places: &mut [P], state: &[u8]) -> Result<(), Status>
     requires some { 0 < length places.old }
     requires few { length places.old ≤ 3 }
     ensures ok { OnOk result (BeginsWith state.now (λ states more.
-        HasNoMore (length places.old) states × HasHeard (starts_from states) places.new [] [])) }
+        HasNoMore (length places.old) states
+        × ((held : ℕ) → HaveRoom P.kind held places.old
+        → HasHeard P.kind held (starts_from states) places.new [] []))) }
     ensures err { IfErr result (RefusesState (length places.old) state.now) }
-    ensures channels { length places.new ≡ length places.old }
+    ensures shut { ShutSame P.kind places.old places.new }
 {
     let count = places.len();
     for at in 0..count {
@@ -143,11 +143,16 @@ fn begin_all(places: &mut [Place], state: &[u8]) -> Result<(), Status>
 /// begin with no state of these channels.
 // The state is read once for each channel, so that what is saved of the others takes no stack.
 #[inline(never)]
-fn begin_from(place: &mut Place, state: &[u8], channel: Channel, count: usize) -> Result<(), Status>
+fn begin_from<P: KeptPlace>(
+    place: &mut P,
+    state: &[u8],
+    channel: Channel,
+    count: usize,
+) -> Result<(), Status>
     requires { 0 < count }
     ensures ok { OnOk result (BeginsWith state.now (λ states more. HasNoMore count states
-        × ((receiver : OneReceiver) × (place.new ≡ Hears receiver)
-        × Stands content (start_on (starts_from states) channel) receiver [] []))) }
+        × HasBegun P.kind place.old place.new (start_on (starts_from states) channel))) }
+    ensures unchanged { OnErr result (place.new ≡ place.old) }
     ensures err { IfErr result (RefusesState count state.now) }
 {
     let mut memory = no_entries();
@@ -156,7 +161,7 @@ fn begin_from(place: &mut Place, state: &[u8], channel: Channel, count: usize) -
         Ok(moment) => moment,
         Err(status) => return Err(status),
     };
-    begin_at(place, &mut memory, moment, selection);
+    place.begin(&mut memory, moment, selection);
     Ok(())
 }
 

@@ -1,16 +1,12 @@
 //! Selecting what a receiver prints.
 
-ghost use Rattle.std.specs.Prelude.{◌≡◌, ◌≢◌, ◌↔◌, ◌≤◌, length, IfErr, IfOk, IsErr, IsTrue, OnErr, OnOk, true, false, if◌then◌else◌};
-ghost use Rattle.nx_copies.specs.Events as events;
+ghost use Rattle.std.specs.Prelude.{◌≡◌, ◌≢◌, ◌≤◌, length, IfErr, IfOk, true, false, if◌then◌else◌};
 ghost use Rattle.nx_receiver.specs.Commands.{by_byte, refuses_vital, said};
-ghost use Rattle.nx_receiver.specs.Receiver.{TakesEvent};
-ghost use Rattle.nx_handle.specs.Places.{is_hearing};
-ghost use Rattle.nx_handle.specs.Receivers.{OneReceiver, content};
 ghost use Rattle.nx_handle.specs.Selecting.{AnswersSelecting, byte_status, command_status, is_letter};
-ghost use Rattle.nx_handle.specs.declared.places.Place.TheVariants.{Hears};
 ghost use Rattle.nx_handle.specs.declared.status.Status.TheVariants.{Done, NoStation, NoSubject, Vital};
 
-use crate::places::{Place, all_hear, channel_of};
+use crate::kept_place::KeptPlace;
+use crate::places::{all_hear, channel_of};
 use crate::status::Status;
 use nx_envelope::Letter;
 use nx_receiver::Command;
@@ -21,9 +17,9 @@ use nx_receiver::Command;
 /// channel of this number; else `NoStation` or `NoSubject` where the byte is no letter; else
 /// `Vital` where it is to refuse subject A, B, D or L, which can't be refused (ITU-R M.540); else
 /// `Done`. Where it isn't `Done`, the receiver stays as it was.
-pub fn select(places: &mut [Place], channel: u8, command: Command<u8>) -> u32
+pub fn select<P: KeptPlace>(places: &mut [P], channel: u8, command: Command<u8>) -> u32
     requires few { length places.old ≤ 3 }
-    ensures { AnswersSelecting (command_status channel (length places.old) command)
+    ensures { AnswersSelecting P.kind (command_status channel (length places.old) command)
         (by_byte command) channel places.old places.new result }
 {
     if !all_hear(places) {
@@ -36,26 +32,10 @@ pub fn select(places: &mut [Place], channel: u8, command: Command<u8>) -> u32
         Ok(command) => command,
         Err(status) => return status.number(),
     };
-    match command_at(&mut places[usize::from(channel.number())], command) {
+    match places[usize::from(channel.number())].command(command) {
         Ok(()) => 0,
         Err(_) => Status::Vital.number(),
     }
-}
-
-/// Gives a command to a channel in its place. Fails where it is to refuse subject A, B, D or L;
-/// then the channel stays as it was.
-fn command_at(place: &mut Place, command: Command) -> Result<(), nx_memory::Vital>
-    requires { is_hearing place.old ≡ true }
-    ensures taken { OnOk result ((receiver : OneReceiver) × (after : OneReceiver)
-        × (place.old ≡ Hears receiver) × (place.new ≡ Hears after)
-        × TakesEvent content receiver after (events.command (said command))) }
-    ensures vital { IsErr result ↔ IsTrue (refuses_vital (said command)) }
-    ensures unchanged { OnErr result (place.new ≡ place.old) }
-{
-    let Place::Hears(receiver) = place else {
-        unreachable!()
-    };
-    receiver.command(command)
 }
 
 /// The command for the letter of its byte, or the status of one that is no letter's.

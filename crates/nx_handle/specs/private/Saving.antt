@@ -3,11 +3,8 @@ use Rattle.std.specs.Prelude.{◌≡◌, ◌≢◌, ◌⊎◌, ℕ, ◌+◌, ◌
 use Rattle.std.specs.Prelude.{◌++◌, length, Result, Ok, Err, codes, take}
 use Rattle.nx_code.specs.Reading.{newline}
 use Rattle.nx_memory.specs.Saved.{SavedStates}
-use Rattle.nx_memory.specs.Selection.{Refused}
-use Rattle.nx_memory.specs.declared.memories.entry.MemoryEntry.{MemoryEntry}
 use Rattle.nx_memory.specs.StateText.{BeginsNoText, BeginsText, IsShortLine, IsStateText}
 use Rattle.nx_memory.specs.StateText.{longest_saved_line}
-use Rattle.nx_copies.specs.Events.{Start}
 use Rattle.nx_receiver.specs.air_file_runs.State.{ended_lines}
 use Rattle.nx_handle.specs.declared.status.Status.{Status}
 use Rattle.nx_handle.specs.declared.status.Status.TheVariants as status
@@ -41,8 +38,3 @@ RefusesEnd count lines last why =
     ((last ≡ codes "END" → BeginsNoText (lines ++ last ∷ [])) × (why ≡ status.StateLine))
     ⊎ (((states : SavedStates) × IsStateText (lines ++ last ∷ []) states
     × (HasNoMore count states → ⊥)) × (why ≡ status.NoChannel))
-
--- a start with these entries, this moment, and what is refused
-abbrev pub start_with : List MemoryEntry → ℕ → Refused → Start
-start_with entries moment refused =
-    record { entries = entries; moment = moment; refused = refused }
