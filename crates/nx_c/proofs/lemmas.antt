@@ -2,5 +2,6 @@
 pub mod Answers
 pub mod HandleValues
 pub mod LooseValues
+pub mod Opening
 pub mod Signal
 pub mod State

@@ -8,9 +8,10 @@ use Rattle.nx_handle.specs.Places.{HaveRoom, all_closed}
 use Rattle.nx_handle.specs.PlainPlaces.{plain_place}
 use Rattle.nx_handle.specs.Saving.{AnswersOpeningFrom}
 use Rattle.nx_handle.specs.Status.{number_of}
+use Rattle.nx_handle.specs.declared.plain_place.PlainPlace.{PlainPlace}
 use Rattle.nx_handle.specs.declared.status.Status.TheVariants.{AlreadyOpen, Done, Memory, TooManyFamilies}
 use Rattle.nx_receiver.specs.air_file_runs.State.{BeginsWith}
-use Rattle.nx_c.specs.ByKind.{AnswersIn, OfPlaces}
+use Rattle.nx_c.specs.ByKind.{AnswersIn, OfPlaces, three_closed}
 use Rattle.nx_c.specs.Families.{Combines, combines}
 use Rattle.nx_c.specs.declared.receiver.open_receiver.OpenReceiver.{OpenReceiver}
 use Rattle.nx_c.specs.declared.receiver.open_receiver.OpenReceiver.TheVariants.{Plain, Combining}
@@ -37,14 +38,20 @@ pub record Opened (Answers : OfPlaces) (families : ℕ) (new : Option OpenReceiv
   pub answers : AnswersIn Answers ready after
   pub done : answer ≡ 0 → new ≡ Some after
 
--- Opening a closed receiver with so many families. More than 200 are refused. Else it is answered
--- as of places; or it would be done, and there is no memory for it. Where it isn't done, the
--- receiver stays closed.
+-- There was no memory to open it, and nothing is open. What is refused of places that need none is
+-- refused first; or it would be done, and it is told that memory lacks.
+abbrev pub LacksMemory : OfPlaces → Type 0 → ℕ → Type 0
+LacksMemory Answers would_be_done answer =
+    ((answer ≢ 0) × Answers PlainPlace plain_place three_closed three_closed)
+    ⊎ ((answer ≡ number_of Memory) × would_be_done)
+
+-- Opening a closed receiver with so many families: more than 200 are refused. Where it isn't done,
+-- the receiver stays closed.
 pub record OpensNew (Answers : OfPlaces) (would_be_done : Type 0) (families : ℕ)
     (new : Option OpenReceiver) (answer : ℕ) : Type 0 where
   pub too_many : most_families < families → answer ≡ number_of TooManyFamilies
-  pub few : families ≤ most_families → Opened Answers families new answer
-      ⊎ ((answer ≡ number_of Memory) × would_be_done)
+  pub few : families ≤ most_families
+      → Opened Answers families new answer ⊎ LacksMemory Answers would_be_done answer
   pub refused : answer ≢ 0 → new ≡ None
 
 -- one that is open stays as it was
