@@ -133,8 +133,8 @@ uint64_t nx_slot(uint8_t station, uint64_t moment);
  * no part of a state: behind nx_open_from they begin anew.
  *
  * It takes all of its memory when it is opened, and gives it back when it is closed; no call between
- * takes any. That is 22 kB without families. With them it is NX_MEMORY_EACH bytes a channel and
- * NX_FAMILY bytes for each family, so 5 MB for 200 on each of the three channels.
+ * takes any. That is 22 kB without families; with them it is 20 kB for each channel, and 8.2 kB for
+ * each family, so 5 MB for 200 families on each of the three channels.
  *
  * What a caller owes for it: it begins as {0}, and is never written or copied; each call on it has
  * ended before the next begins, on one thread. It is closed or abandoned before it is forgotten.
