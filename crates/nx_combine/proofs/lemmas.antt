@@ -9,12 +9,14 @@ pub mod Invented
 pub mod Joined
 pub mod Judged
 pub mod JudgedOn
+pub mod Leaving
 pub mod Noted
 pub mod Once
 pub mod Printed
 pub mod Ring
 pub mod Sendings
 pub mod Sent
+pub mod Silent
 pub mod Sure
 pub mod TakerBits
 pub mod TakerPairs

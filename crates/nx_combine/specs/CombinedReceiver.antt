@@ -2,8 +2,11 @@
 -- contract (this profile). `held` is how many families are held.
 use Rattle.std.specs.Prelude.{◌≡◌, ℕ, Bool, List, [], Option, if◌then◌else◌}
 use Rattle.nx_code.specs.Lists.{last_of}
+use Rattle.nx_memory.specs.Content.{last_known}
 use Rattle.nx_memory.specs.Memory.{most_entries}
+use Rattle.nx_memory.specs.Saved.{SavedState}
 use Rattle.nx_memory.specs.declared.memories.entry.MemoryEntry.{MemoryEntry}
+use Rattle.nx_sync.specs.Locks.{IsNow, Lock, Now}
 use Rattle.nx_sync.specs.Synchroniser.{Held}
 use Rattle.nx_copies.specs.Events.{Event, Setting, Start, elements_among, first_setting}
 use Rattle.nx_copies.specs.Events.{setting_after_all, settings}
@@ -14,7 +17,7 @@ use Rattle.nx_copies.specs.hearing.CopyTaker.{hearer_of}
 use Rattle.nx_receiver.specs.ChannelReceiver.{ReceiverKind}
 use Rattle.nx_combine.specs.CombinedHearing.{CombinedOver, CombinedStands}
 use Rattle.nx_combine.specs.CombinedPrinting.{combined_holding, printed_combined}
-use Rattle.nx_combine.specs.CopyPositions.{HeardCopy}
+use Rattle.nx_combine.specs.CopyPositions.{HeardCopy, PlacedCopy, ended_placed, heard_copies}
 use Rattle.nx_combine.specs.Families.{combined_copies_holding, most_families}
 use Rattle.nx_combine.specs.Judging.{CombinerView, HeldFamilies, Judged, StandsHolding, all_copies}
 use Rattle.nx_combine.specs.Judging.{combiner_of}
@@ -161,3 +164,30 @@ AwaitsAfterAll content = AwaitsAfterAllHolding most_families content
 abbrev pub combined_kind : {M : Type 0} → (M → List MemoryEntry)
     → ReceiverKind (CombiningReceiver M)
 combined_kind content = combined_kind_holding most_families content
+
+-- contracts see a memory that enters what it knows as its entries
+abbrev pub its_entries : List MemoryEntry → List MemoryEntry
+its_entries entries = entries
+
+-- all entries after the copies that were found: those with which a receiver starts, and those that
+-- are made of the combined copies
+abbrev pub entries_of_placed_holding : ℕ → Start → List Event → List PlacedCopy
+    → List MemoryEntry
+entries_of_placed_holding held start events copies =
+    (judged_behind_holding held (judged_none start.entries)
+    (heard_copies (first_setting start) events copies)).entries
+
+-- What a receiver leaves that is switched off after these events. First, the last 200 of all
+-- entries of the copies that have ended, but those behind which one of their identity stands less
+-- than 66 hours later. And second, what is refused after all commands. So a copy that stands open
+-- is no part of it, nor are families.
+pub record LeavesHolding (held : ℕ) (start : Start) (events : List Event) (left : SavedState)
+    : Type 0 where
+  pub locks : List Lock
+  pub now : Now
+  pub stands : IsNow (elements_among events) locks now
+  pub entries : left.entries
+      ≡ last_known (last_of most_entries
+      (entries_of_placed_holding held start events
+      (ended_placed (elements_among events) locks now)))
+  pub refused : left.refused ≡ (setting_after_all (first_setting start) events).refused

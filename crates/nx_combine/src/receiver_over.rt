@@ -5,6 +5,7 @@
 ghost use Rattle.std.specs.Prelude.{◌≡◌, ◌↔◌, ◌+◌, ◌<◌, ◌≤◌, List, [], ◌∷◌, ◌++◌, length, take, drop, IfErr, IfSome, IsErr, IsTrue, None, OnErr, OnOk, Some};
 ghost use Rattle.nx_envelope.specs.Moment.{last_moment};
 ghost use Rattle.nx_code.specs.Lists.{last_of};
+ghost use Rattle.nx_memory.specs.Content.{last_known};
 ghost use Rattle.nx_memory.specs.Memory.{most_entries, newest_moment};
 ghost use Rattle.nx_copies.specs.Events as events;
 ghost use Rattle.nx_copies.specs.Events.{Event, Start, at_moment};
@@ -16,7 +17,7 @@ ghost use Rattle.nx_receiver.specs.declared.command.Command.TheVariants.{RefuseS
 ghost use Rattle.nx_receiver.specs.Moments.{Refuses};
 ghost use Rattle.nx_receiver.specs.Receiver.{HeadsText, headed_list};
 ghost use Rattle.nx_combine.specs.CombinedPrinting.{PrintsHoldingToEnd};
-ghost use Rattle.nx_combine.specs.CombinedReceiver.{AwaitsAfterAllHolding, StandsAfterAllHolding, combined_kind_holding, hearer_in, receiver_in, text_over};
+ghost use Rattle.nx_combine.specs.CombinedReceiver.{AwaitsAfterAllHolding, LeavesHolding, StandsAfterAllHolding, combined_kind_holding, hearer_in, its_entries, receiver_in, text_over};
 ghost use Rattle.nx_combine.specs.private.CombinedReceiver.{JudgesNext};
 ghost use Rattle.nx_combine.specs.CopyPositions.{HeardCopy};
 ghost use Rattle.nx_combine.specs.Judging.{Judged, StandsHolding, combiner_of};
@@ -29,7 +30,7 @@ use crate::taker::CombinedTaker;
 use nx_copies::{CopyTag, EntryHead, Over, hear_elements};
 use nx_envelope::{Finder, MAX_FOUND};
 use nx_fec::PackedElements;
-use nx_memory::{Renewing, Selection, Vital};
+use nx_memory::{Renewing, RenewingRecall, Saved, Selection, Vital};
 use nx_receiver::{Command, MomentFault, check_moment};
 use nx_sync::Synchroniser;
 use std::marker::Model;
@@ -288,5 +289,22 @@ impl<S: HoldsFamilies, M: Renewing> ReceiverOver<S, M> {
         )?;
         self.is_given = printed.is_given;
         Some(printed.head)
+    }
+}
+
+impl<S: HoldsFamilies> ReceiverOver<S, RenewingRecall> {
+    /// What a receiver keeps while it is switched off: what is selected now, and the entries of its
+    /// memory, but those behind which one of their identity stands less than 66 hours later. A copy
+    /// that stands open is no part of it, nor are the families.
+    pub fn saved(&self) -> Saved
+        ensures leaves { (places : List S.Place) (start : Start) (history : List Event)
+            (log : List TaggedCopy)
+            → StandsAfterAllHolding (S.most places) its_entries start
+            (receiver_in S.held self.now places) history log
+            → LeavesHolding (S.most places) start history result }
+        ensures entries { result.entries ≡ last_known self.now.memory }
+        ensures refused { result.refused ≡ self.now.taker.copies.selection }
+    {
+        Saved::of_renewing(&self.taker.copies.selection, &self.memory)
     }
 }

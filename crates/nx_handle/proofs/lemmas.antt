@@ -1,5 +1,6 @@
 -- Lemmas that several proofs cite.
 pub mod Places
+pub mod Plain
 pub mod Receivers
 pub mod Heard
 pub mod Begun
@@ -14,5 +15,6 @@ pub mod Numbers
 pub mod Opening
 pub mod Saving
 pub mod Selecting
+pub mod Sendings
 pub mod State
 pub mod Status

@@ -4,7 +4,8 @@ use Rattle.std.specs.Prelude.{◌≡◌, ℕ, ◌<◌, Bool, true, false, List, 
 use Rattle.nx_copies.specs.Events.{Event, Start}
 use Rattle.nx_copies.specs.copies.FoundCopies.{TaggedCopy}
 use Rattle.nx_combine.specs.CombinedPrinting.{combined_holding}
-use Rattle.nx_combine.specs.CombinedReceiver.{StandsAfterAllHolding, receiver_in, text_over}
+use Rattle.nx_combine.specs.CombinedReceiver.{LeavesHolding, StandsAfterAllHolding, receiver_in}
+use Rattle.nx_combine.specs.CombinedReceiver.{text_over}
 use Rattle.nx_combine.specs.FamilyPlaces.{BelongsTo, LentFamily, held_in}
 use Rattle.nx_handle.specs.FamilyRooms.{OneCombining}
 use Rattle.nx_handle.specs.PlaceKinds.{PlaceKind}
@@ -74,6 +75,6 @@ combining_place places = record {
       StandsLent held start (places place.families) place.state events log;
   start_of = λ place. combining_start place.state;
   text_of = λ place. combining_text place.state;
-  leaves = λ held start events left. left ≡ left;
+  leaves = LeavesHolding;
   sendings = λ held start events log n. n ≡ n;
 }

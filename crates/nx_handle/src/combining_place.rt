@@ -142,8 +142,13 @@ impl<F: FamilyRoom> KeptPlace for CombiningPlace<F> {
         self.state = CombiningState::Ended;
     }
 
+    // Built in the place of its caller, as of a plain place.
+    #[inline(always)]
     fn saved(&self) -> Saved {
-        Saved::new()
+        match &self.state {
+            CombiningState::Hears(receiver) => receiver.saved(),
+            _ => Saved::new(),
+        }
     }
 
     fn sendings(&self) -> u64 {

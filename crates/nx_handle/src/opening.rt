@@ -1,14 +1,12 @@
 //! Opening a receiver, and setting its moment.
 
-ghost use Rattle.std.specs.Prelude.{◌≡◌, ◌<◌, ◌≤◌, ℕ, [], length, IfErr, OnOk, true};
+ghost use Rattle.std.specs.Prelude.{◌≡◌, ◌<◌, ◌≤◌, [], length, IfErr, OnOk, true};
 ghost use Rattle.nx_copies.specs.Events.{none_refused};
-ghost use Rattle.nx_copies.specs.copies.Shares.{all_at_zero};
-ghost use Rattle.nx_handle.specs.Life.{HasHeard};
 ghost use Rattle.nx_handle.specs.PlaceKinds.{HasBegun, start_with};
 ghost use Rattle.nx_handle.specs.private.Moments.{MomentsTaken, RefusesNext};
 ghost use Rattle.nx_handle.specs.Opening.{AnswersMoment, AnswersOpening};
-ghost use Rattle.nx_handle.specs.private.Opening.{ShutSame, moment_told};
-ghost use Rattle.nx_handle.specs.Places.{HaveRoom, all_hear};
+ghost use Rattle.nx_handle.specs.private.Opening.{HaveBegun, ShutSame, moment_told};
+ghost use Rattle.nx_handle.specs.Places.{all_hear};
 
 use crate::kept_place::KeptPlace;
 use crate::places::{all_hear, are_closed, close_all};
@@ -42,11 +40,7 @@ pub fn open<P: KeptPlace>(places: &mut [P], moment: u64) -> u32
 /// Opens a receiver that starts with nothing, and has heard nothing. It is built in its places,
 /// channel by channel: each move of one would take as much of the stack.
 fn begin_new<P: KeptPlace>(places: &mut [P])
-    requires some { 0 < length places.old }
-    requires few { length places.old ≤ 3 }
-    ensures begun { (held : ℕ) → HaveRoom P.kind held places.old
-        → HasHeard P.kind held all_at_zero places.new [] [] }
-    ensures hear { all_hear P.kind places.new ≡ true }
+    ensures begun { HaveBegun P.kind places.new (start_with [] 0 none_refused) }
     ensures shut { ShutSame P.kind places.old places.new }
 {
     for at in 0..places.len() {

@@ -1,6 +1,6 @@
 //! Saving a receiver, and opening one from what is saved.
 
-ghost use Rattle.std.specs.Prelude.{◌≡◌, ◌<◌, ◌≤◌, ◌↔◌, ◌∷◌, ◌++◌, ℕ, [], length, IfErr, IfOk, IsTrue, List, None, OnErr, OnOk, Some};
+ghost use Rattle.std.specs.Prelude.{◌≡◌, ◌<◌, ◌≤◌, ◌↔◌, ◌∷◌, ◌++◌, ℕ, [], length, IfErr, IfOk, IsTrue, List, None, OnOk, Some};
 ghost use Rattle.nx_envelope.specs.Moment.{last_moment};
 ghost use Rattle.nx_fec.specs.air_files.Channels.{channel_number};
 ghost use Rattle.nx_fec.specs.declared.air_files.channel.Channel.{Channel as TheChannel};
@@ -152,7 +152,7 @@ fn begin_from<P: KeptPlace>(
     requires { 0 < count }
     ensures ok { OnOk result (BeginsWith state.now (λ states more. HasNoMore count states
         × HasBegun P.kind place.old place.new (start_on (starts_from states) channel))) }
-    ensures unchanged { OnErr result (place.new ≡ place.old) }
+    ensures room { P.kind.shut place.new ≡ P.kind.shut place.old }
     ensures err { IfErr result (RefusesState count state.now) }
 {
     let mut memory = no_entries();

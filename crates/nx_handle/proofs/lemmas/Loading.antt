@@ -10,7 +10,7 @@ use Rattle.nx_memory.specs.StateText.{IsStateText}
 use Rattle.nx_memory.specs.declared.memories.entry.MemoryEntry.{MemoryEntry}
 use Rattle.nx_memory.proofs.lemmas.StateTexts.{nothing_sound}
 use Rattle.nx_copies.specs.copies.Shares.{saved_of, start_on, starts_from}
-use Rattle.nx_handle.specs.private.Saving.{start_with}
+use Rattle.nx_handle.specs.PlaceKinds.{start_with}
 
 -- the start of a channel, by what is saved of it
 pub start-is : (states : SavedStates) (channel : Channel) (saved : SavedState)

@@ -1,27 +1,27 @@
 -- What opening and setting a moment answer.
-use Rattle.std.proofs.Common.{◌≡◌, ◌≢◌, ◌<◌, ◌≤◌, inl, inr, ℕ, zero, suc, Bool, true, false, List, [], length, slice_get, Some, arith, refl, sym, ap, ◌∙◌, subst}
+use Rattle.std.proofs.Common.{◌≡◌, ◌≢◌, ◌<◌, ◌≤◌, inl, inr, ℕ, zero, suc, Bool, true, false, List, [], length, map, slice_get, Some, arith, refl, sym, ap, ◌∙◌, subst}
 use Rattle.std.proofs.lemmas.Bool.{cases_lt}
 use Rattle.std.proofs.lemmas.Grind.{common_steps}
-use Rattle.nx_fec.specs.air_files.Channels.{channel_number}
-use Rattle.nx_fec.specs.declared.air_files.channel.Channel.{Channel}
 use Rattle.nx_fec.specs.declared.air_files.channel.Channel.TheVariants.{Zero, One, Two}
 use Rattle.nx_envelope.specs.Moment.{last_moment}
+use Rattle.nx_copies.specs.Events.{Setting, none_refused, setting_after_all}
 use Rattle.nx_copies.specs.copies.Shares.{Given, MarkedCopy, Starts, all_at_zero}
 use Rattle.nx_receiver.specs.Listener.{moment_in_force}
 use Rattle.nx_receiver.specs.Moments.{Refuses}
 use Rattle.nx_receiver.specs.declared.fault.MomentFault.{MomentFault}
 use Rattle.nx_receiver.specs.declared.fault.MomentFault.TheVariants.{Back, Range}
 use Rattle.nx_handle.specs.Life.{HasHeard}
-use Rattle.nx_handle.specs.Opening.{AnswersMoment, AnswersOpening, SetsMoment, moment_status, opening_status}
-use Rattle.nx_handle.specs.private.Opening.{moment_told}
-use Rattle.nx_handle.specs.Places.{HasChannel, all_closed, all_hear, place_on}
-use Rattle.nx_handle.specs.Receivers.{Listening, OneReceiver, one_on}
+use Rattle.nx_handle.specs.Opening.{AnswersMoment, AnswersOpening, moment_status, opening_status}
+use Rattle.nx_handle.specs.PlaceKinds.{IsPlaceKind, PlaceKind, start_with}
+use Rattle.nx_handle.specs.Places.{all_closed, all_hear}
+use Rattle.nx_handle.specs.Receivers.{one_on}
 use Rattle.nx_handle.specs.Status.{number_of}
-use Rattle.nx_handle.specs.private.Moments.{HasTaken, MomentsTaken, RefusesNext}
-use Rattle.nx_handle.specs.declared.places.Place.{Place}
-use Rattle.nx_handle.specs.declared.places.Place.TheVariants.{Hears}
+use Rattle.nx_handle.specs.private.Moments.{MomentsTaken, RefusesNext}
+use Rattle.nx_handle.specs.private.Opening.{HaveBegun, ShutSame, moment_told}
 use Rattle.nx_handle.proofs.lemmas.Heard.{moment-in}
-use Rattle.nx_handle.proofs.lemmas.Places.{both-closed, each-is, hears-is, hearing-in, same-list, some-is, there, within}
+use Rattle.nx_handle.proofs.lemmas.Moments.{moments-shut}
+use Rattle.nx_handle.proofs.lemmas.New.{all-new, room-stays}
+use Rattle.nx_handle.proofs.lemmas.Places.{closed-again, long-kept, room-kept, same-list, shut-same, some-is, there, within}
 use Rattle.nx_handle.proofs.lemmas.Status.{moment-done, moment-not-done, moment-refused}
 
 -- ---- opening
@@ -31,78 +31,91 @@ first-moment : (moment answer : ℕ) → answer ≡ number_of (moment_status 0 m
     → answer ≡ number_of (opening_status true moment)
 first-moment moment answer e = grind (arith, common_steps)
 
-heard-all : (starts : Starts) (places : List Place) → HasHeard starts places [] []
-    → length places ≤ 3 → (k : ℕ) → k < length places
-    → (r : OneReceiver) × (slice_get places k ≡ Some (Hears r))
-heard-all starts places h few zero lt = (h.listener.on_0, h.hears Zero lt)
-heard-all starts places h few (suc zero) lt = (h.listener.on_1, h.hears One lt)
-heard-all starts places h few (suc (suc zero)) lt = (h.listener.on_2, h.hears Two lt)
-heard-all starts places h few (suc (suc (suc k))) lt = absurd (omega (arith, lt, few))
+-- what has begun at moment 0 has it in force
+begun-moment : {P : Type 0} (kind : PlaceKind P) → IsPlaceKind kind → (places : List P)
+    → HaveBegun kind places (start_with [] 0 none_refused) → (k : ℕ) (place : P)
+    → slice_get places k ≡ Some place → (kind.start_of place).moment ≡ 0
+unfolding setting_after_all
+begun-moment kind laws places begun k place e =
+    let b = begun k place e in
+    ap (λ (setting : Setting). setting.moment)
+    ((laws.receiver (kind.families place)).in_force (start_with [] 0 none_refused) place [] []
+    b.stands)
 
-sets : (moment answer : ℕ) (begun new : List Place) → HasHeard all_at_zero begun [] []
-    → all_hear begun ≡ true → AnswersMoment moment begun new answer (all_hear begun)
-    → SetsMoment moment begun new answer all_at_zero [] []
-sets moment answer begun new h hear set =
-    (subst (λ l. AnswersMoment moment begun new answer l) hear set) all_at_zero [] [] h
-
-pub opens : (moment : ℕ) (old begun new : List Place) → all_closed old ≡ true
-    → HasHeard all_at_zero begun [] [] → all_hear begun ≡ true → length begun ≡ length old
-    → AnswersMoment moment begun new 0 (all_hear begun) → AnswersOpening moment old new 0
-opens moment old begun new closed h hear long set =
-    let done = sets moment 0 begun new h hear set in record {
+pub opens : {P : Type 0} (kind : PlaceKind P) → IsPlaceKind kind → (moment : ℕ)
+    (old begun new : List P) → all_closed kind old ≡ true → 0 < length old
+    → HaveBegun kind begun (start_with [] 0 none_refused) → ShutSame kind old begun
+    → MomentsTaken kind moment begun new (length begun) → AnswersOpening kind moment old new 0
+opens kind laws moment old begun new closed some h same m =
+    let keeps = room-kept kind laws old begun same in
+    let long = long-kept kind old begun same in
+    let first = there begun 0 (omega (arith, some, long)) in
+    let taken = (m.taken 0 (omega (arith, some, long)) first.0 first.1).2 in
+    record {
       cause = subst (λ o. 0 ≡ number_of (opening_status o moment)) (sym closed)
-          (first-moment moment 0 done.cause);
-      done = λ e. done.done e;
+          (first-moment moment 0 (moment-done 0 moment (omega arith) taken.in_range));
+      done = λ _ held room. moment-in kind laws held all_at_zero begun new [] [] moment m
+          (all-new kind laws held begun (omega (arith, some, long))
+          (room-stays kind held old begun keeps room) h);
       refused = λ no. absurd (no refl);
-      channels = done.channels ∙ long;
+      channels = m.channels ∙ long;
+      rooms = room-kept kind laws begun new
+          (moments-shut kind moment begun new (length begun) m) ∙ keeps;
     }
 
-pub opens-not : (moment answer : ℕ) (old begun new end : List Place) → all_closed old ≡ true
-    → HasHeard all_at_zero begun [] [] → all_hear begun ≡ true → length begun ≡ length old
-    → AnswersMoment moment begun new answer (all_hear begun) → answer ≢ 0 → all_closed end ≡ true
-    → length end ≡ length new → AnswersOpening moment old end answer
-opens-not moment answer old begun new end closed h hear long set fails shut longs =
-    let done = sets moment answer begun new h hear set in
-    let same = longs ∙ done.channels ∙ long in record {
+pub opens-not : {P : Type 0} (kind : PlaceKind P) → IsPlaceKind kind → (moment answer : ℕ)
+    (old begun mid end : List P) (fault : MomentFault) → all_closed kind old ≡ true
+    → HaveBegun kind begun (start_with [] 0 none_refused) → ShutSame kind old begun
+    → RefusesNext kind moment begun mid fault → answer ≡ number_of (moment_told fault)
+    → end ≡ map kind.shut mid → AnswersOpening kind moment old end answer
+opens-not kind laws moment answer old begun mid end fault closed h same r told shut =
+    let mids = moments-shut kind moment begun mid r.count r.taken ∙ same in
+    let is : end ≡ old = closed-again kind laws old mid end closed mids shut in
+    record {
       cause = subst (λ o. answer ≡ number_of (opening_status o moment)) (sym closed)
-          (first-moment moment answer done.cause);
-      done = λ e. absurd (fails e);
-      refused = λ _. both-closed old end closed shut same;
-      channels = same;
+          (first-moment moment answer (told ∙ ap number_of (moment-refused 0 moment fault
+          (subst (λ n. Refuses n moment fault)
+          (begun-moment kind laws begun h r.count r.place r.next) r.refuses))));
+      done = λ e. absurd (moment-not-done fault (sym told ∙ e));
+      refused = λ _. is;
+      channels = ap length is;
+      rooms = ap (map kind.families) is;
     }
 
 -- ---- a moment
 
 -- all channels have the moment in force
-in-force : (starts : Starts) (places : List Place) (given : List Given) (copies : List MarkedCopy)
-    → length places ≤ 3 → HasHeard starts places given copies → (k : ℕ) (r : OneReceiver)
-    → slice_get places k ≡ Some (Hears r)
-    → r.hearer.moment ≡ moment_in_force starts.moment given
-in-force starts places given copies few h zero r e =
-    ap (λ (x : OneReceiver). x.hearer.moment)
-    (hears-is (some-is (sym e ∙ h.hears Zero (within places 0 (Hears r) e)))) ∙ h.heard.moments Zero
-in-force starts places given copies few h (suc zero) r e =
-    ap (λ (x : OneReceiver). x.hearer.moment)
-    (hears-is (some-is (sym e ∙ h.hears One (within places 1 (Hears r) e)))) ∙ h.heard.moments One
-in-force starts places given copies few h (suc (suc zero)) r e =
-    ap (λ (x : OneReceiver). x.hearer.moment)
-    (hears-is (some-is (sym e ∙ h.hears Two (within places 2 (Hears r) e)))) ∙ h.heard.moments Two
-in-force starts places given copies few h (suc (suc (suc k))) r e =
-    absurd (omega (arith, few, within places (suc (suc (suc k))) (Hears r) e))
+in-force : {P : Type 0} (kind : PlaceKind P) (held : ℕ) (starts : Starts) (places : List P)
+    (given : List Given) (copies : List MarkedCopy) → length places ≤ 3
+    → HasHeard kind held starts places given copies → (k : ℕ) (r : P)
+    → slice_get places k ≡ Some r
+    → (kind.start_of r).moment ≡ moment_in_force starts.moment given
+in-force {P} kind held starts places given copies few h zero r e =
+    ap (λ (x : P). (kind.start_of x).moment)
+    (some-is (sym e ∙ h.hears Zero (within places 0 r e))) ∙ h.heard.moments Zero
+in-force {P} kind held starts places given copies few h (suc zero) r e =
+    ap (λ (x : P). (kind.start_of x).moment)
+    (some-is (sym e ∙ h.hears One (within places 1 r e))) ∙ h.heard.moments One
+in-force {P} kind held starts places given copies few h (suc (suc zero)) r e =
+    ap (λ (x : P). (kind.start_of x).moment)
+    (some-is (sym e ∙ h.hears Two (within places 2 r e))) ∙ h.heard.moments Two
+in-force {P} kind held starts places given copies few h (suc (suc (suc k))) r e =
+    absurd (omega (arith, few, within places (suc (suc (suc k))) r e))
 
-pub moment-done-in : (moment : ℕ) (old new : List Place) → 0 < length old → length old ≤ 3
-    → all_hear old ≡ true → MomentsTaken moment old new (length old)
-    → AnswersMoment moment old new 0 (all_hear old)
-moment-done-in moment old new some few hear m =
-    subst (λ b. AnswersMoment moment old new 0 b) (sym hear)
-    (λ starts given copies h.
-    let first = h.hears Zero some in
-    let t = (m.taken 0 some (one_on h.listener Zero) first).2 in record {
+pub moment-done-in : {P : Type 0} (kind : PlaceKind P) → IsPlaceKind kind → (moment : ℕ)
+    (old new : List P) → 0 < length old → length old ≤ 3 → all_hear kind old ≡ true
+    → MomentsTaken kind moment old new (length old)
+    → AnswersMoment kind moment old new 0 (all_hear kind old)
+moment-done-in kind laws moment old new some few hear m =
+    subst (λ b. AnswersMoment kind moment old new 0 b) (sym hear)
+    (λ held starts given copies h.
+    let t = (m.taken 0 some (one_on h.listener Zero) (h.hears Zero some)).2 in record {
       cause = moment-done (moment_in_force starts.moment given) moment
           (subst (λ n. n ≤ moment) (h.heard.moments Zero) t.not_back) t.in_range;
-      done = λ e. moment-in starts old new given copies moment m h;
+      done = λ e. moment-in kind laws held starts old new given copies moment m h;
       refused = λ no. absurd (no refl);
       channels = m.channels;
+      rooms = room-kept kind laws old new (moments-shut kind moment old new (length old) m);
     })
 
 -- what one channel took no other refuses
@@ -112,31 +125,37 @@ refuses-none moment now (Range at) le within h = omega (arith, le, within, h.1)
 refuses-none moment now (Back from at) le within h = omega (arith, le, within, h.3)
 
 -- the first channel refused it, so each is as it was
-pub refused-first : (starts : Starts) (given : List Given) (copies : List MarkedCopy) (moment : ℕ)
-    (old new : List Place) (fault : MomentFault) → 0 < length old → length old ≤ 3
-    → RefusesNext moment old new fault → HasHeard starts old given copies → new ≡ old
-refused-first starts given copies moment old new fault some few r h =
+pub refused-first : {P : Type 0} (kind : PlaceKind P) (held : ℕ) (starts : Starts)
+    (given : List Given) (copies : List MarkedCopy) (moment : ℕ) (old new : List P)
+    (fault : MomentFault) → 0 < length old → length old ≤ 3
+    → RefusesNext kind moment old new fault → HasHeard kind held starts old given copies
+    → new ≡ old
+refused-first kind held starts given copies moment old new fault some few r h =
     elim (cases_lt 0 r.count) [
       | inl lt ↦
           let t = (r.taken.taken 0 lt (one_on h.listener Zero) (h.hears Zero some)).2 in
           absurd (refuses-none moment (moment_in_force starts.moment given) fault
           (subst (λ n. n ≤ moment) (h.heard.moments Zero) t.not_back) t.in_range
           (subst (λ n. Refuses n moment fault)
-          (in-force starts old given copies few h r.count r.receiver r.next) r.refuses))
+          (in-force kind held starts old given copies few h r.count r.place r.next) r.refuses))
       | inr le ↦ same-list new old (λ k. r.taken.others k (omega (arith, le)))
     ]
 
-pub moment-refused-in : (moment answer : ℕ) (old new : List Place) (fault : MomentFault)
-    → 0 < length old → length old ≤ 3 → all_hear old ≡ true → RefusesNext moment old new fault
-    → answer ≡ number_of (moment_told fault) → AnswersMoment moment old new answer (all_hear old)
-moment-refused-in moment answer old new fault some few hear r told =
-    subst (λ b. AnswersMoment moment old new answer b) (sym hear)
-    (λ starts given copies h. record {
+pub moment-refused-in : {P : Type 0} (kind : PlaceKind P) → IsPlaceKind kind
+    → (moment answer : ℕ) (old new : List P) (fault : MomentFault) → 0 < length old
+    → length old ≤ 3 → all_hear kind old ≡ true → RefusesNext kind moment old new fault
+    → answer ≡ number_of (moment_told fault)
+    → AnswersMoment kind moment old new answer (all_hear kind old)
+moment-refused-in kind laws moment answer old new fault some few hear r told =
+    subst (λ b. AnswersMoment kind moment old new answer b) (sym hear)
+    (λ held starts given copies h. record {
       cause = told ∙ ap number_of
           (moment-refused (moment_in_force starts.moment given) moment fault
           (subst (λ n. Refuses n moment fault)
-          (in-force starts old given copies few h r.count r.receiver r.next) r.refuses));
+          (in-force kind held starts old given copies few h r.count r.place r.next) r.refuses));
       done = λ e. absurd (moment-not-done fault (sym told ∙ e));
-      refused = λ _. refused-first starts given copies moment old new fault some few r h;
+      refused = λ _. refused-first kind held starts given copies moment old new fault some few r
+          h;
       channels = r.taken.channels;
+      rooms = room-kept kind laws old new (moments-shut kind moment old new r.count r.taken);
     })

@@ -1,21 +1,18 @@
 -- Places in a list, and channels by their numbers.
-use Rattle.std.proofs.Common.{◌≡◌, ◌≢◌, ◌<◌, ◌≤◌, ◌⊎◌, ◌&&◌, inl, inr, ℕ, zero, suc, Bool, true, false, List, [], ◌∷◌, length, get_or, slice_get, slice_set, Option, Some, None, arith, refl, sym, subst, ap, ap₂, ◌∙◌}
+use Rattle.std.proofs.Common.{◌≡◌, ◌≢◌, ◌<◌, ◌≤◌, ◌+◌, ◌⊎◌, ◌&&◌, inl, inr, ℕ, zero, suc, Bool, true, false, List, [], ◌∷◌, ◌++◌, length, map, take, drop, get_or, slice_get, slice_set, Option, Some, None, Result, Ok, Err, OnOk, arith, refl, sym, subst, ap, ap₂, ◌∙◌}
 use Rattle.std.specs.List.{list_all}
 use Rattle.std.proofs.lemmas.Option.{slice_get-get_or}
 use Rattle.std.proofs.lemmas.Bool.{true≢false}
+use Rattle.std.proofs.lemmas.List.{length-map}
 use Rattle.nx_fec.specs.air_files.Channels.{channel_number, same_channel}
 use Rattle.nx_fec.specs.declared.air_files.channel.Channel.{Channel}
 use Rattle.nx_fec.specs.declared.air_files.channel.Channel.TheVariants.{Zero, One, Two}
-use Rattle.nx_handle.specs.Places.{all_closed, is_closed, is_hearing}
-use Rattle.nx_handle.specs.Receivers.{OneReceiver}
-use Rattle.nx_handle.specs.declared.places.Place.{Place}
-use Rattle.nx_handle.specs.declared.places.Place.TheVariants.{Closed, Hears, Ended}
+use Rattle.nx_handle.specs.PlaceKinds.{IsPlaceKind, PlaceKind}
+use Rattle.nx_handle.specs.Places.{KeepsRoom, all_closed}
+use Rattle.nx_handle.specs.private.Opening.{ShutSame}
 
 pub some-is : {A : Type 0} {x y : A} → Some x ≡ Some y → x ≡ y
 some-is e = cc
-
-pub hears-is : {x y : OneReceiver} → Hears x ≡ Hears y → x ≡ y
-hears-is e = cc
 
 IsOne : {A : Type 0} → Option A → Type 0
 IsOne None = ⊥
@@ -116,30 +113,90 @@ pub not-all : {X : Type 0} (test : X → Bool) (xs : List X) (k : ℕ) (x : X)
 not-all test xs k x e is =
     not-true (list_all test xs) (λ all. true≢false (sym (each-is test xs k x all e) ∙ is))
 
-closed-is : (place : Place) → is_closed place ≡ true → place ≡ Closed
-closed-is Closed e = refl
-closed-is (Hears receiver) e = absurd (true≢false (sym e))
-closed-is Ended e = absurd (true≢false (sym e))
+-- ---- places that are shut
 
--- two receivers of as many channels are the same, where both are closed
-pub both-closed : (old new : List Place) → all_closed old ≡ true → all_closed new ≡ true
-    → length new ≡ length old → new ≡ old
-both-closed [] [] e f same = refl
-both-closed [] (y ∷ ys) e f same = absurd (omega (arith, same))
-both-closed (x ∷ xs) [] e f same = absurd (omega (arith, same))
-both-closed (x ∷ xs) (y ∷ ys) e f same =
+pub shut-closed : {P : Type 0} (kind : PlaceKind P) → IsPlaceKind kind → (places : List P)
+    → all_closed kind (map kind.shut places) ≡ true
+shut-closed kind laws [] = refl
+shut-closed kind laws (x ∷ xs) =
+    and-of (kind.is_closed (kind.shut x)) (all_closed kind (map kind.shut xs)) (laws.shut_closed x)
+    (shut-closed kind laws xs)
+
+-- a receiver that is closed stays as it is
+pub closed-shut : {P : Type 0} (kind : PlaceKind P) → IsPlaceKind kind → (places : List P)
+    → all_closed kind places ≡ true → map kind.shut places ≡ places
+closed-shut kind laws [] e = refl
+closed-shut kind laws (x ∷ xs) e =
     ap₂ (λ a rest. a ∷ rest)
-    (closed-is y (and-left (is_closed y) (all_closed ys) f)
-    ∙ sym (closed-is x (and-left (is_closed x) (all_closed xs) e)))
-    (both-closed xs ys (and-right (is_closed x) (all_closed xs) e)
-    (and-right (is_closed y) (all_closed ys) f) (omega (arith, same)))
+    (laws.closed_shut x (and-left (kind.is_closed x) (all_closed kind xs) e))
+    (closed-shut kind laws xs (and-right (kind.is_closed x) (all_closed kind xs) e))
 
--- the receiver in a place that hears
-pub hearing-in : (place : Place) → is_hearing place ≡ true
-    → (receiver : OneReceiver) × (place ≡ Hears receiver)
-hearing-in Closed e = absurd (true≢false (sym e))
-hearing-in (Hears receiver) e = (receiver, refl)
-hearing-in Ended e = absurd (true≢false (sym e))
+shut-room : {P : Type 0} (kind : PlaceKind P) → IsPlaceKind kind → (places : List P)
+    → map kind.families (map kind.shut places) ≡ map kind.families places
+shut-room kind laws [] = refl
+shut-room kind laws (x ∷ xs) =
+    ap₂ (λ a rest. a ∷ rest) (laws.shut_room x) (shut-room kind laws xs)
+
+-- places that are the same ones once they are closed have the same room, and are as many
+pub room-kept : {P : Type 0} (kind : PlaceKind P) → IsPlaceKind kind → (old new : List P)
+    → ShutSame kind old new → KeepsRoom kind old new
+room-kept kind laws old new same =
+    sym (shut-room kind laws new) ∙ ap (map kind.families) same ∙ shut-room kind laws old
+
+pub long-kept : {P : Type 0} (kind : PlaceKind P) (old new : List P) → ShutSame kind old new
+    → length new ≡ length old
+long-kept kind old new same =
+    sym (length-map new kind.shut) ∙ ap length same ∙ length-map old kind.shut
+
+-- shutting them twice is shutting them once
+shut-twice : {P : Type 0} (kind : PlaceKind P) → IsPlaceKind kind → (places : List P)
+    → map kind.shut (map kind.shut places) ≡ map kind.shut places
+shut-twice kind laws places =
+    closed-shut kind laws (map kind.shut places) (shut-closed kind laws places)
+
+pub shut-same : {P : Type 0} (kind : PlaceKind P) → IsPlaceKind kind → (old new : List P)
+    → new ≡ map kind.shut old → ShutSame kind old new
+shut-same kind laws old new e = ap (map kind.shut) e ∙ shut-twice kind laws old
+
+-- a closed receiver that was opened is as it was once it is closed again
+pub closed-again : {P : Type 0} (kind : PlaceKind P) → IsPlaceKind kind → (old new end : List P)
+    → all_closed kind old ≡ true → ShutSame kind old new → end ≡ map kind.shut new → end ≡ old
+closed-again kind laws old new end closed same e = e ∙ same ∙ closed-shut kind laws old closed
+
+-- two receivers of the same places are the same, where both are closed
+pub both-closed : {P : Type 0} (kind : PlaceKind P) → IsPlaceKind kind → (old new : List P)
+    → all_closed kind old ≡ true → all_closed kind new ≡ true → ShutSame kind old new → new ≡ old
+both-closed kind laws old new e f same =
+    sym (closed-shut kind laws new f) ∙ same ∙ closed-shut kind laws old e
+
+-- another place there, of which the same holds
+-- those so far are shut, and the others are as they were
+abbrev pub first_shut : {X : Type 0} → (X → X) → ℕ → List X → List X
+first_shut f count xs = map f (take count xs) ++ drop count xs
+
+shut-more : {X : Type 0} (f : X → X) (xs : List X) (i : ℕ) (d : X) → i < length xs
+    → slice_set (first_shut f i xs) i (f (get_or (first_shut f i xs) i d))
+    ≡ first_shut f (suc i) xs
+shut-more f [] i d lt = absurd (omega (arith, lt))
+shut-more f (x ∷ xs) zero d lt = refl
+shut-more f (x ∷ xs) (suc i) d lt =
+    ap (λ rest. f x ∷ rest) (shut-more f xs i d (omega (arith, lt)))
+
+pub shut-next : {X : Type 0} (f : X → X) (xs now : List X) (i : ℕ) (d x : X) → i < length xs
+    → now ≡ first_shut f i xs → x ≡ f (get_or now i d)
+    → slice_set now i x ≡ first_shut f (i + 1) xs
+shut-next f xs now i d x lt is e =
+    let next : suc i ≡ i + 1 = omega arith in
+    ap (λ y. slice_set now i y) e
+    ∙ ap (λ l. slice_set l i (f (get_or l i d))) is
+    ∙ shut-more f xs i d lt ∙ ap (λ n. first_shut f n xs) next
+
+pub set-map : {X Y : Type 0} (f : X → Y) (xs : List X) (k : ℕ) (x y : X)
+    → slice_get xs k ≡ Some y → f x ≡ f y → map f (slice_set xs k x) ≡ map f xs
+set-map f [] k x y e is = refl
+set-map f (z ∷ zs) zero x y e is =
+    ap (λ a. a ∷ map f zs) (is ∙ sym (ap f (some-is e)))
+set-map f (z ∷ zs) (suc k) x y e is = ap (λ rest. f z ∷ rest) (set-map f zs k x y e is)
 
 -- ---- channels
 
@@ -179,3 +236,10 @@ few-channels Two = omega arith
 pub read-at : {X : Type 0} (xs : List X) (i : ℕ) (d : X) (channel : Channel) → i < length xs
     → i ≡ channel_number channel → slice_get xs (channel_number channel) ≡ Some (get_or xs i d)
 read-at xs i d channel lt is = ap (slice_get xs) (sym is) ∙ slice_get-get_or xs i d lt
+
+-- ---- results
+
+pub on_ok-both : {A B P Q R : Type 0} (result : Result A B) → OnOk result P → OnOk result Q
+    → (P → Q → R) → OnOk result R
+on_ok-both (Ok x) p q f = f p q
+on_ok-both (Err x) p q f = tt

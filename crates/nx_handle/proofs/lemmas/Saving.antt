@@ -1,5 +1,5 @@
 -- What saving answers, and opening from what is saved.
-use Rattle.std.proofs.Common.{◌≡◌, ◌≢◌, ◌≤◌, ◌<◌, inl, inr, ℕ, ◌+◌, ◌||◌, ◌⊎◌, Bool, false, true, IsTrue, codes, List, [], ◌∷◌, ◌++◌, length, take, drop, refl, sym, ap, ap₂, ◌-◌, ◌∙◌, subst, append_assoc, append-nil, arith, Some}
+use Rattle.std.proofs.Common.{◌≡◌, ◌≢◌, ◌≤◌, ◌<◌, inl, inr, ℕ, ◌+◌, ◌||◌, ◌⊎◌, Bool, false, true, IsTrue, codes, List, [], ◌∷◌, ◌++◌, length, map, take, drop, refl, sym, ap, ap₂, ◌-◌, ◌∙◌, subst, append_assoc, append-nil, arith, Some}
 use Rattle.nx_code.specs.Reading.{newline}
 use Rattle.nx_memory.specs.Saved.{SavedStates}
 use Rattle.nx_memory.specs.StateText.{BeginsNoText, BeginsText, IsShortLine, IsStateText}
@@ -12,13 +12,14 @@ use Rattle.nx_receiver.proofs.lemmas.state.Splits.{ended-one}
 use Rattle.nx_code.specs.Reading.{IsCapital}
 use Rattle.nx_memory.specs.Selection.{IsRefusable, Refused}
 use Rattle.nx_handle.specs.Life.{HasHeard}
-use Rattle.nx_handle.specs.Places.{all_closed}
+use Rattle.nx_handle.specs.PlaceKinds.{IsPlaceKind, PlaceKind}
+use Rattle.nx_handle.specs.Places.{HaveRoom, all_closed}
 use Rattle.nx_handle.specs.Saving.{AnswersOpeningFrom, HasNoMore, HasNothing, OpensFromBy, RefusesLetter, RefusesState, RefusesText}
 use Rattle.nx_handle.specs.private.Saving.{IsFirstLine, RefusesEnd, StandsNext}
 use Rattle.nx_handle.specs.Status.{number_of}
 use Rattle.std.specs.FinSet as set
-use Rattle.nx_handle.specs.declared.places.Place.{Place}
-use Rattle.nx_handle.proofs.lemmas.Places.{both-closed}
+use Rattle.nx_handle.specs.private.Opening.{ShutSame}
+use Rattle.nx_handle.proofs.lemmas.Places.{closed-again, long-kept, room-kept}
 use Rattle.nx_handle.specs.declared.status.Status.{Status}
 use Rattle.nx_handle.specs.declared.status.Status.TheVariants as status
 use Rattle.std.specs.Prelude.{Err, Ok, slice_index_or}
@@ -87,28 +88,36 @@ begins-all bytes P count some h =
     }
 
 -- what a receiver answers that is opened from a state, and that isn't
-pub opens-from-it : (bytes : List ℕ) (old new : List Place) → all_closed old ≡ true
+pub opens-from-it : {P : Type 0} (kind : PlaceKind P) → IsPlaceKind kind → (bytes : List ℕ)
+    (old new : List P) → all_closed kind old ≡ true
     → BeginsWith bytes (λ states more. HasNoMore (length old) states
-    × HasHeard (starts_from states) new [] []) → length new ≡ length old
-    → AnswersOpeningFrom bytes old new 0
-opens-from-it bytes old new closed b long = record {
-  opens = subst (λ o. OpensFromBy o bytes old new 0) (sym closed)
+    × ((held : ℕ) → HaveRoom kind held old → HasHeard kind held (starts_from states) new [] []))
+    → ShutSame kind old new → AnswersOpeningFrom kind bytes old new 0
+opens-from-it kind laws bytes old new closed b same = record {
+  opens = subst (λ o. OpensFromBy kind o bytes old new 0) (sym closed)
       (inl (begins-as bytes
-      (λ states more. HasNoMore (length old) states × HasHeard (starts_from states) new [] [])
+      (λ states more. HasNoMore (length old) states
+      × ((held : ℕ) → HaveRoom kind held old
+      → HasHeard kind held (starts_from states) new [] []))
       (λ states more. (0 ≡ 0) × HasNoMore (length old) states
-      × HasHeard (starts_from states) new [] [])
+      × ((held : ℕ) → HaveRoom kind held old
+      → HasHeard kind held (starts_from states) new [] []))
       (λ states more h. (refl, h.0, h.1)) b));
-  channels = long;
+  channels = long-kept kind old new same;
+  rooms = room-kept kind laws old new same;
 }
 
-pub opens-not : (bytes : List ℕ) (old new : List Place) (why : Status) (answer : ℕ)
-    → all_closed old ≡ true → RefusesState (length old) bytes why → answer ≡ number_of why
-    → all_closed new ≡ true → length new ≡ length old → AnswersOpeningFrom bytes old new answer
-opens-not bytes old new why answer closed refuses e shut long = record {
-  opens = subst (λ o. OpensFromBy o bytes old new answer) (sym closed)
-      (inr (why, refuses, e, both-closed old new closed shut long));
-  channels = long;
-}
+pub opens-not : {P : Type 0} (kind : PlaceKind P) → IsPlaceKind kind → (bytes : List ℕ)
+    (old mid new : List P) (why : Status) (answer : ℕ) → all_closed kind old ≡ true
+    → RefusesState (length old) bytes why → answer ≡ number_of why → ShutSame kind old mid
+    → new ≡ map kind.shut mid → AnswersOpeningFrom kind bytes old new answer
+opens-not kind laws bytes old mid new why answer closed refuses e same shut =
+    let is = closed-again kind laws old mid new closed same shut in record {
+      opens = subst (λ o. OpensFromBy kind o bytes old new answer) (sym closed)
+          (inr (why, refuses, e, is));
+      channels = ap length is;
+      rooms = ap (map kind.families) is;
+    }
 
 -- ---- what is saved of channels
 

@@ -1,57 +1,60 @@
 -- What selecting answers.
-use Rattle.std.proofs.Common.{◌≡◌, ◌<◌, ◌≤◌, ℕ, Bool, true, false, not, nat_lt, IsTrue, if◌then◌else◌, List, length, slice_set, refl, sym, ap, ◌∙◌, subst, Some, arith}
+use Rattle.std.proofs.Common.{◌≡◌, ◌<◌, ◌≤◌, ℕ, Bool, true, false, not, nat_lt, IsTrue, if◌then◌else◌, List, length, map, slice_set, refl, sym, ap, ◌∙◌, subst, Some, arith}
 use Rattle.std.proofs.lemmas.Grind.{common_steps}
 use Rattle.nx_fec.specs.air_files.Channels.{channel_number}
 use Rattle.nx_fec.specs.declared.air_files.channel.Channel.{Channel}
 use Rattle.nx_copies.specs.Events as events
 use Rattle.nx_copies.specs.Events.{Command}
-use Rattle.nx_receiver.specs.Receiver.{TakesEvent}
 use Rattle.nx_receiver.specs.declared.command.Command.{Command as TheCommand}
 use Rattle.nx_copies.specs.copies.Shares.{Given, MarkedCopy, Starts}
 use Rattle.nx_receiver.specs.Listener.{then_command}
 use Rattle.nx_handle.specs.Life.{HasHeard}
-use Rattle.nx_handle.specs.Places.{all_hear, is_hearing, place_on}
-use Rattle.nx_handle.specs.Receivers.{OneReceiver, content}
+use Rattle.nx_handle.specs.PlaceKinds.{IsPlaceKind, PlaceKind, TakesEventIn}
+use Rattle.nx_handle.specs.Places.{all_hear, place_on}
 use Rattle.nx_handle.specs.Selecting.{AnswersSelecting, byte_status, command_status, selecting_status}
 use Rattle.nx_handle.specs.Status.{number_of}
-use Rattle.nx_handle.specs.declared.places.Place.{Place}
-use Rattle.nx_handle.specs.declared.places.Place.TheVariants.{Hears}
 use Rattle.nx_handle.specs.declared.status.Status.{Status}
 use Rattle.nx_handle.specs.declared.status.Status.TheVariants.{Done, NoChannel, Vital}
 use Rattle.nx_handle.proofs.lemmas.Heard.{command-in}
-use Rattle.nx_handle.proofs.lemmas.Places.{all-set, set-long, within}
+use Rattle.nx_handle.proofs.lemmas.Places.{all-set, set-long, set-map, within}
 
-pub selecting-done : (asked : Status) (c : Command) (channel : Channel) (old new : List Place)
-    (r after : OneReceiver) → all_hear old ≡ true → place_on old channel ≡ Some (Hears r)
-    → new ≡ slice_set old (channel_number channel) (Hears after) → asked ≡ Done
-    → TakesEvent content r after (events.command c)
-    → AnswersSelecting asked c (channel_number channel) old new 0
-selecting-done asked c channel old new r after hear at is done takes =
+pub selecting-done : {P : Type 0} (kind : PlaceKind P) → IsPlaceKind kind → (asked : Status)
+    (c : Command) (channel : Channel) (old new : List P) (r after : P)
+    → all_hear kind old ≡ true → place_on old channel ≡ Some r
+    → new ≡ slice_set old (channel_number channel) after → asked ≡ Done
+    → TakesEventIn kind r after (events.command c) → kind.is_hearing after ≡ true
+    → kind.families after ≡ kind.families r
+    → AnswersSelecting kind asked c (channel_number channel) old new 0
+selecting-done kind laws asked c channel old new r after hear at is done takes now room =
     let n = channel_number channel in record {
       cause = sym (ap (λ b. number_of (selecting_status asked b)) hear ∙ ap number_of done);
       done = λ _. record {
         on = channel;
         is = refl;
-        has_channel = within old n (Hears r) at;
+        has_channel = within old n r at;
         was = hear;
-        now = ap all_hear is ∙ all-set is_hearing old n (Hears after) hear refl;
-        heard = λ starts given copies h.
-            subst (λ places. HasHeard starts places (then_command given channel c) copies) (sym is)
-            (command-in old channel r after c at takes starts given copies h);
+        now = ap (all_hear kind) is ∙ all-set kind.is_hearing old n after hear now;
+        heard = λ held starts given copies h.
+            subst (λ places. HasHeard kind held starts places (then_command given channel c)
+            copies) (sym is)
+            (command-in kind laws old channel r after c at takes held starts given copies h);
       };
       refused = λ no. absurd (no refl);
-      channels = ap length is ∙ set-long old n (Hears after);
+      channels = ap length is ∙ set-long old n after;
+      rooms = ap (map kind.families) is ∙ set-map kind.families old n after r at room;
     }
 
 -- a command that isn't done leaves all as it was
-pub selecting-refused : (asked : Status) (c : Command) (channel answer : ℕ) (old new : List Place)
-    → answer ≡ number_of (selecting_status asked (all_hear old)) → (answer ≡ 0 → ⊥) → new ≡ old
-    → AnswersSelecting asked c channel old new answer
-selecting-refused asked c channel answer old new cause fails same = record {
+pub selecting-refused : {P : Type 0} (kind : PlaceKind P) (asked : Status) (c : Command)
+    (channel answer : ℕ) (old new : List P)
+    → answer ≡ number_of (selecting_status asked (all_hear kind old)) → (answer ≡ 0 → ⊥)
+    → new ≡ old → AnswersSelecting kind asked c channel old new answer
+selecting-refused kind asked c channel answer old new cause fails same = record {
   cause = cause;
   done = λ e. absurd (fails e);
   refused = λ _. same;
   channels = ap length same;
+  rooms = ap (map kind.families) same;
 }
 
 not-vital : (vital : Bool) → (IsTrue vital → IsTrue false)

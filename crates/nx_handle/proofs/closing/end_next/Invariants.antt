@@ -1,14 +1,17 @@
-use Rattle.std.proofs.Common.{◌≡◌, ◌<◌, ℕ, List, length, slice_get, Some}
+use Rattle.std.proofs.Common.{◌≡◌, List, length}
 use Rattle.nx_copies.specs.copies.Shares.{MarkedCopy}
 use Rattle.nx_handle.specs.Life.{EndsWith}
-use Rattle.nx_handle.specs.declared.places.Place.TheVariants.{Ended}
+use Rattle.nx_handle.specs.Places.{KeepsRoom}
+use Rattle.nx_handle.proofs.lemmas.Closing.{FirstGone}
 use Rattle.nx_handle.proofs.closing.end_next.Given as goal
 
 -- the channels so far have ended, and printed nothing
 abbrev pub invariant-loop-at : goal.invariant-loop-at
-invariant-loop-at l = record {
+invariant-loop-at g l = record {
   channels : length l.places ≡ length l.fn.places;
+  rooms : KeepsRoom g.P.KeptPlace.kind l.fn.places l.places;
   same_log : l.log ≡ l.fn.log;
-  ended : (k : ℕ) → k < l.at → slice_get l.places k ≡ Some Ended;
-  behind : (left : List MarkedCopy) → EndsWith l.places left → EndsWith l.fn.places left;
+  ended : FirstGone g.P.KeptPlace.kind l.places l.at;
+  behind : (left : List MarkedCopy) → EndsWith g.P.KeptPlace.kind l.places left
+      → EndsWith g.P.KeptPlace.kind l.fn.places left;
 }

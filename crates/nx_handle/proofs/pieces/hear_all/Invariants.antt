@@ -4,11 +4,12 @@ use Rattle.nx_handle.proofs.lemmas.Hearing.{HearsSilently}
 use Rattle.nx_handle.proofs.pieces.hear_all.Given as goal
 
 abbrev pub invariant-loop-heard : goal.invariant-loop-heard
-invariant-loop-heard l = record {
+invariant-loop-heard g l = record {
   within : l.heard ≤ length l.elements;
   same_log : l.log ≡ l.fn.log;
-  silent : HearsSilently l.fn.receiver l.receiver (elements_of (take l.heard l.elements));
+  silent : HearsSilently g.P.KeptPlace.kind l.fn.place l.place
+      (elements_of (take l.heard l.elements));
 }
 
 abbrev pub decreases-loop-heard : goal.decreases-loop-heard
-decreases-loop-heard l = length l.elements - l.heard
+decreases-loop-heard g l = length l.elements - l.heard

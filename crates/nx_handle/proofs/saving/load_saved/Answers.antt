@@ -4,7 +4,7 @@ use Rattle.nx_memory.specs.Memory.{newest_moment}
 use Rattle.nx_memory.specs.Saved.{SavedState, newest_of_all}
 use Rattle.nx_copies.specs.copies.Shares.{saved_of, start_on, starts_from}
 use Rattle.nx_handle.specs.Saving.{HasNoMore}
-use Rattle.nx_handle.specs.private.Saving.{start_with}
+use Rattle.nx_handle.specs.PlaceKinds.{start_with}
 use Rattle.nx_handle.proofs.lemmas.Loading.{newest-in_range, newest-within, start-is}
 use Rattle.nx_handle.proofs.lemmas.Saving.{begins-as, end-is-bad, next-is-last}
 use Rattle.nx_handle.proofs.saving.load_saved.Goals as goal

@@ -15,7 +15,8 @@ use Rattle.nx_handle.proofs.lemmas.State.{few-bytes}
 use Rattle.nx_handle.proofs.saving.save.Goals as goal
 
 pub returns : goal.returns
-returns c =
+returns g c =
+    let kind = g.P.KeptPlace.kind in
     let places = c.args.places.now in
     let left = c.left_by.result in
     let text = state_bytes left in
@@ -23,18 +24,18 @@ returns c =
     let copied = c.copy_state_out.ensures.copied in
     let long : length c.copy_state_out.new.space ≡ length was =
     ap length copied.copied ∙ same-length was text in
-    let hear : all_hear places ≡ true = sym c.all_hear.ensures ∙ c.if-not-all_hear.false in
+    let hear : all_hear kind places ≡ true = sym c.all_hear.ensures ∙ c.if-not-all_hear.false in
     record {
       text = text;
       copied = copied;
-      saves = subst (λ b. SavesBy b places text (length was) c.number-2.result) (sym hear) (
+      saves = subst (λ b. SavesBy kind b places text (length was) c.number-2.result) (sym hear) (
         record {
           left = left;
           sound = c.copy_state_out.ensures.sound;
-          leaves = λ starts given copies h channel has.
+          leaves = λ held starts given copies h channel has.
               c.left_by.ensures.leaves channel (one_on h.listener channel) (h.hears channel has)
-              (start_on starts channel) (share channel given) (copies_on channel copies)
-              (stands-on starts places given copies h channel);
+              held (start_on starts channel) (share channel given) (copies_on channel copies)
+              (stands-on kind held starts places given copies h channel);
           others = λ channel le. c.left_by.ensures.others channel
               (past places (channel_number channel) le);
           spelled = refl;
