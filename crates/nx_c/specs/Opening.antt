@@ -12,7 +12,7 @@ use Rattle.nx_handle.specs.declared.plain_place.PlainPlace.{PlainPlace}
 use Rattle.nx_handle.specs.declared.status.Status.TheVariants.{AlreadyOpen, Done, Memory, TooManyFamilies}
 use Rattle.nx_receiver.specs.air_file_runs.State.{BeginsWith}
 use Rattle.nx_c.specs.ByKind.{AnswersIn, OfPlaces, three_closed}
-use Rattle.nx_c.specs.Families.{Combines, combines}
+use Rattle.nx_c.specs.Families.{combines}
 use Rattle.nx_c.specs.declared.receiver.open_receiver.OpenReceiver.{OpenReceiver}
 use Rattle.nx_c.specs.declared.receiver.open_receiver.OpenReceiver.TheVariants.{Plain, Combining}
 

@@ -16,7 +16,7 @@ use Rattle.nx_handle.specs.declared.status.Status.{Status}
 use Rattle.nx_handle.specs.declared.status.Status.TheVariants.{Done, Memory, MomentRange}
 use Rattle.nx_handle.proofs.lemmas.Saving.{begins-as}
 use Rattle.nx_c.specs.ByKind.{AnswersIn, OfPlaces, three_closed}
-use Rattle.nx_c.specs.Opening.{IsReady, LacksMemory, OpensNew}
+use Rattle.nx_c.specs.Opening.{IsReady, OpensNew}
 use Rattle.nx_c.specs.declared.receiver.open_receiver.OpenReceiver.{OpenReceiver}
 
 by-late : (late : Bool) → 0 ≡ number_of (cond late MomentRange Done)
