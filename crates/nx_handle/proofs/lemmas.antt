@@ -3,6 +3,7 @@ pub mod Places
 pub mod Plain
 pub mod Receivers
 pub mod Heard
+pub mod Combining
 pub mod Begun
 pub mod New
 pub mod Moments

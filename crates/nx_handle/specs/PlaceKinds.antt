@@ -12,7 +12,8 @@ use Rattle.nx_receiver.specs.ChannelReceiver.{IsReceiver, ReceiverKind, TakesEve
 
 -- What there is to say of a place of a kind. It is one of a channel that hears, or of a receiver
 -- that is closed, or neither: the channel has ended. `shut` is the place once its receiver is
--- closed, and `families` for how many families it has room.
+-- closed. `families` is for how many families it has room, and `vacant` which room that is: the
+-- place once it is closed, with nothing in its room.
 --
 -- With so many families held, `printing` is what the receiver in it prints. In `stands held start
 -- place events log` that receiver hears, stands after these events, which begin with this start, and
@@ -25,6 +26,7 @@ pub record PlaceKind (P : Type 0) : Type 1 where
   pub is_closed : P → Bool
   pub shut : P → P
   pub families : P → ℕ
+  pub vacant : P → P
   pub printing : ℕ → Printing
   pub stands : ℕ → Start → P → List Event → List TaggedCopy → Type 0
   pub start_of : P → Start
@@ -45,6 +47,11 @@ receiver_of kind held = record {
 abbrev pub TakesEventIn : {P : Type 0} → PlaceKind P → P → P → Event → Type 0
 TakesEventIn kind old new event =
     (held : ℕ) → TakesEventBy (receiver_of kind held) old new event
+
+-- it is the same room, for as many families
+pub record SameRoom {P : Type 0} (kind : PlaceKind P) (old new : P) : Type 0 where
+  pub families : kind.families new ≡ kind.families old
+  pub vacant : kind.vacant new ≡ kind.vacant old
 
 -- a start with these entries, this moment, and what is refused
 abbrev pub start_with : List MemoryEntry → ℕ → Refused → Start
@@ -82,7 +89,7 @@ pub record IsPlaceKind {P : Type 0} (kind : PlaceKind P) : Type 0 where
       → kind.stands held start place events log → kind.families place ≡ held
   pub is_open : (place : P) → kind.is_hearing place ≡ true → kind.is_closed place ≡ false
   pub shut_closed : (place : P) → kind.is_closed (kind.shut place) ≡ true
-  pub shut_room : (place : P) → kind.families (kind.shut place) ≡ kind.families place
+  pub shut_room : (place : P) → SameRoom kind place (kind.shut place)
   pub closed_shut : (place : P) → kind.is_closed place ≡ true → kind.shut place ≡ place
   pub begins_too : (held : ℕ) (first : Start) (place : P) → kind.stands held first place [] []
       → (start : Start) → start.entries ≡ []

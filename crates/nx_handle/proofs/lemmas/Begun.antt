@@ -58,9 +58,9 @@ begun-more kind laws bytes count places on was place has before now channel lt =
                 × HasBegun kind was place (start_on (starts_from states) on))
                 (λ states more. HasNoMore count states × BeginsFrom kind place on states)
                 (λ states more h. (
-                h.0,
-                has-begun kind laws was place (start_on (starts_from states) on) h.1,
-            )) now,
+                  h.0,
+                  has-begun kind laws was place (start_on (starts_from states) on) h.1,
+                )) now,
           )
     ]
 

@@ -75,7 +75,7 @@ same-at f (x ∷ xs) (z ∷ ys) (suc k) y same e =
 pub room-stays : {P : Type 0} (kind : PlaceKind P) (held : ℕ) (old new : List P)
     → KeepsRoom kind old new → HaveRoom kind held old → HaveRoom kind held new
 room-stays kind held old new keeps have channel place e =
-    let was = same-at kind.families old new (channel_number channel) place keeps e in
+    let was = same-at kind.families old new (channel_number channel) place keeps.families e in
     was.2 ∙ have channel was.0 was.1
 
 pub all-new : {P : Type 0} (kind : PlaceKind P) → IsPlaceKind kind → (held : ℕ)

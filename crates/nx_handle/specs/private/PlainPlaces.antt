@@ -147,7 +147,7 @@ plain-laws = record {
   has_room = has-room;
   is_open = is-open;
   shut_closed = λ place. refl;
-  shut_room = λ place. refl;
+  shut_room = λ place. record { families = refl; vacant = refl };
   closed_shut = closed-shut;
   begins_too = begins-too;
   takes_moment = takes-moment;
