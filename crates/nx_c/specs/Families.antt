@@ -1,17 +1,20 @@
 -- Room for the families of a channel, in a block of its own (this profile).
-use Rattle.std.specs.Prelude.{List}
+use Rattle.std.specs.Prelude.{List, []}
 use Rattle.nx_combine.specs.FamilyPlaces.{LentFamily}
 use Rattle.nx_handle.specs.CombiningPlaces.{CombiningPlaceView, combining_place}
 use Rattle.nx_handle.specs.PlaceKinds.{PlaceKind}
-use Rattle.nx_c.specs.declared.receiver.family_block.FamilyBlock.{FamilyBlock}
 
--- the families that lie in such a room
-abbrev pub families_in : FamilyBlock → List LentFamily
-families_in block = block.places.items
+-- contracts see such a room as what lies in it
+abbrev pub families_in : List LentFamily → List LentFamily
+families_in lying = lying
+
+-- so all such rooms are alike where nothing lies in them
+abbrev pub nothing_in : List LentFamily → List LentFamily
+nothing_in lying = []
 
 -- a place with such a room, and its kind
 abbrev pub Combines : Type 0
-Combines = CombiningPlaceView FamilyBlock
+Combines = CombiningPlaceView (List LentFamily)
 
 abbrev pub combines : PlaceKind Combines
-combines = combining_place families_in
+combines = combining_place families_in nothing_in

@@ -7,18 +7,29 @@ use nx_copies::{EntryHead, Over};
 use nx_handle::FamilyRoom;
 use nx_memory::RenewingRecall;
 use std::alloc::{AllocError, Global};
+use std::marker::Model;
 
-/// Room for the families of a channel, in a block that is taken when it is made.
+/// Room for the families of a channel, in a block that is taken when it is made. Contracts see it
+/// as what lies in its places.
 #[derive(Drop)]
 pub struct FamilyBlock {
     places: Vec<FamilyPlace>,
+}
+
+impl Model for FamilyBlock {
+    ghost use Rattle.std.specs.Prelude.{List};
+    ghost use Rattle.nx_combine.specs.FamilyPlaces.{LentFamily};
+
+    ghost Value = { List LentFamily };
+
+    ghost view = { λ block. block.places.items };
 }
 
 impl FamilyBlock {
     /// Room for so many families, none of which began. Fails where there is no memory for it.
     // One place after another is made in the block, so no more than one lies on the stack.
     pub(crate) fn of(alloc: Global, count: usize) -> Result<FamilyBlock, AllocError>
-        ensures { IfOk result (λ block. length block.places.items ≡ count) }
+        ensures { IfOk result (λ block. length block ≡ count) }
     {
         let mut places = Vec::with_capacity(alloc, count)?;
         for _ in 0..count {
@@ -30,9 +41,11 @@ impl FamilyBlock {
 
 /// Its families are the receiver's room.
 impl FamilyRoom for FamilyBlock {
-    ghost use Rattle.nx_c.specs.Families.{families_in};
+    ghost use Rattle.nx_c.specs.Families.{families_in, nothing_in};
 
     ghost places = { families_in };
+
+    ghost vacant = { nothing_in };
 
     fn finish(
         &mut self,
