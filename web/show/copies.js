@@ -4,7 +4,7 @@ import { identityOf } from '../receiver/entries.js';
 const APART = 237600; // seconds, 66 hours; what is further apart is another message of that number
 
 /** Whether an entry is better than another one. */
-function isBetter(one, other) {
+export function isBetter(one, other) {
     const [isFull, wasFull] = [one.how === 'full', other.how === 'full'];
     return isFull === wasFull ? one.errors < other.errors : isFull;
 }

@@ -6,7 +6,7 @@ import { bitsOf, example, path, tonesOf, waveOf } from '../waves.mjs';
 
 async function triesAirFile({ tab }) {
     assert.deepEqual(await tab.hear(path('heard-badly.air')),
-        ['heard-badly.air: 2 messages heard: 2 new, 0 known, 0 refused; 1 of the new not whole.']);
+        ['heard-badly.air: 1 message heard: 1 new, 0 known, 0 refused.'], 'twice in one sound');
     assert.deepEqual(await tab.titles(), ['New EA01: station E, A navigational warning, number 01']);
     assert.match((await tab.textsOf('#list .facts'))[0], /complete, none of 25 letters lost$/, 'the best copy');
     assert.deepEqual(await tab.textsOf('#list summary'), ['1 other copy of it, 1 not read yet']);
@@ -46,6 +46,37 @@ async function triesRecording({ tab, room }) {
     await tab.set('began', '2025-01-04 00:40');
     assert.match((await tab.hear(file))[0], /2 messages heard: 0 new, 2 known/);
     assert.match((await tab.faults())[0], /^The time of this sound had no effect: the time is before the one in force/);
+    await tab.forgetFaults();
+}
+
+/** Two recordings of one message, each without another letter: what they are put together to takes the place of
+ *  the first, says so, and is New again. So it is over a reload, and then none of it comes anew. */
+async function triesTwoRecordings({ tab, room }) {
+    const [first, second] = example('two-halves.air').split(/(?=^T )/m).map(bitsOf);
+    const hear = async (name, bits, began) => {
+        writeFileSync(`${room}/${name}.wav`, waveOf([tonesOf(bits, { rate: 8000 })], { rate: 8000 }));
+        await tab.set('began', began);
+        return (await tab.hear(`${room}/${name}.wav`))[0];
+    };
+    const shown = '#list > li:first-child article >';
+    assert.match(await hear('first', first, '2025-01-09 00:40'),
+        /^first.wav: 1 message heard: 1 new, 0 known, 0 refused; 1 of the new not whole\./);
+    assert.deepEqual(await tab.textsOf(`${shown} pre`), ['*BCDEFGHIJKLMNOPQRSTUVWX']);
+    await tab.press('#list > li:first-child .head button');
+    assert.match((await tab.titles())[0], /^EA01/);
+    assert.match(await hear('second', second, '2025-01-09 04:40'),
+        /^second.wav: 1 message heard: 1 new, 0 known, 0 refused\./);
+    for (const isLoaded of [false, true]) {
+        if (isLoaded) await tab.loadAgain();
+        assert.match((await tab.titles())[0], /^New EA01/);
+        assert.deepEqual(await tab.textsOf(`${shown} pre`), ['ABCDEFGHIJKLMNOPQRSTUVWX']);
+        assert.match((await tab.textsOf(`${shown} .facts`))[0],
+            /^2025-01-09 04:40:\d\d UTC, 518 kHz, complete, none of 25 letters lost, from 2 sendings$/);
+        assert.deepEqual(await tab.textsOf(`${shown} .replaced`),
+            ['Better than the copy before it (complete, 1 of 25 letters lost).']);
+        assert.match((await tab.textsOf('#list > li:first-child .copies .facts'))[0], /complete, 1 of 25 letters lost$/);
+    }
+    assert.match(await hear('third', second, '2025-01-09 08:40'), /1 message heard: 0 new, 1 known, 0 refused/);
     await tab.forgetFaults();
 }
 
@@ -177,7 +208,7 @@ async function triesNoRequests({ tab, address }) {
     assert.deepEqual(tab.requests.filter((asked) => asked !== address), []);
 }
 
-const all = [triesAirFile, triesReload, triesRecording, triesEnds, triesWaves, triesRefusal, triesCommands,
+const all = [triesAirFile, triesReload, triesRecording, triesTwoRecordings, triesEnds, triesWaves, triesRefusal, triesCommands,
     triesWindowsFiles, triesFaults];
 
 /** What a Firefox gives no trial: files that are saved, and what the network was asked for. */
