@@ -4,14 +4,20 @@
 import assert from 'node:assert/strict';
 import { spawnSync } from 'node:child_process';
 import { readFileSync, readdirSync } from 'node:fs';
+import { fileURLToPath } from 'node:url';
 import { AirRun } from '../receiver/air.js';
+import { identityOf, isGood } from '../receiver/entries.js';
 import { Receiver } from '../receiver/receiver.js';
+import { isBetter } from '../show/copies.js';
+import { chanceOf } from './chance.mjs';
 import { FAMILIES, joined, keptOver as over, printed, storeOf } from './over.mjs';
 
 const EXAMPLES = new URL('../../examples/', import.meta.url);
 const PIECES = [Infinity, 100, 7, 1];
 const WORD = 7; // elements
+const BROKEN = 1400; // elements of a sending that breaks off
 const MANY = 300; // sounds behind each other
+const FILES = 300; // by chance
 
 const [, , modulePath, program] = process.argv;
 const module = readFileSync(modulePath);
@@ -89,7 +95,7 @@ async function triesTwoSounds() {
     assert.deepEqual(await printed(page, first),
         { log: bad, heard: 1, added: 1, known: 0, refused: 0, notWhole: 1 });
     page.kept.markRead(page.kept.messages);
-    await printed(page, example('cut.air').replace(/^T .*\n/gm, '')); // another sound between them
+    await printed(page, example('number-00.air').replace(/^T .*\n/gm, '')); // another sound between them
     assert.deepEqual(await printed(page, second),
         { log: good, heard: 1, added: 1, known: 0, refused: 0, notWhole: 0 });
     const ofBoth = page.kept.messages.at(-1);
@@ -113,7 +119,7 @@ async function triesOneSound() {
 async function triesCut() {
     const page = await keptOver();
     const alone = await over(module, storeOf(), 0);
-    const broken = airOf(M0, WHOLE.slice(0, 1300));
+    const broken = airOf(M0, WHOLE.slice(0, BROKEN));
     const cut = await printed(page, broken);
     assert.match(cut.log, /^\[EA01 2025-01-01 00:40:00 cut \d+\/\d+\]\nBUOY 51/);
     assert.equal(cut.log, (await printed(alone, broken)).log);
@@ -123,7 +129,7 @@ async function triesCut() {
     assert.match((await printed(alone, airOf(M1, lacking(WHOLE, 174)))).log, / full 1\//);
     const other = await keptOver();
     await printed(other, airOf(M0, lacking(WHOLE, 174)));
-    const whole = await printed(other, airOf(M1, WHOLE.slice(0, 1300)));
+    const whole = await printed(other, airOf(M1, WHOLE.slice(0, BROKEN)));
     assert.equal(whole.log, `[EA01 2025-01-01 04:40:00 full 0/${TEXT.length}]\n${TEXT}\n`, 'the end of the sound joins too');
     assert.equal(other.kept.messages.at(-1).sendings, 2);
 }
@@ -150,6 +156,62 @@ async function triesCommands() {
     assert.deepEqual(page.kept.refusedHere[0], { stations: ['Q'], subjects: [] });
     assert.match((await printed(page, second)).log, / full 0\//);
     assert.deepEqual(page.kept.refused[0], { stations: ['Q'], subjects: [] });
+}
+
+/** Air files by chance, each with its log as an independent reader has it. */
+function byChance() {
+    const script = `import json, random, sys
+sys.path.insert(0, sys.argv[1])
+from combined_air import random_air
+from combined_reader import run_of
+chance = random.Random(24)
+for _ in range(${FILES}):
+    air = random_air(chance)
+    run = run_of(air)
+    if run.fault is None:
+        print(json.dumps([air.decode("latin1"), run.combined.decode("latin1")]))`;
+    const { stdout, status } = spawnSync('python3', ['-c', script, fileURLToPath(new URL('../../ci', import.meta.url))],
+        { encoding: 'latin1', maxBuffer: 1e9 });
+    assert.equal(status, 0);
+    return stdout.trim().split('\n').map((line) => JSON.parse(line));
+}
+
+/** An air file cut into sounds at some of its lines, each with its moment. */
+function soundsOf(air, chance) {
+    const sounds = [];
+    let moment = 0;
+    for (const line of air.split('\n').slice(0, -1)) {
+        if (sounds.length === 0 || chance() < 0.2) sounds.push({ moment, air: '' });
+        if (line.startsWith('T ')) moment = Number(line.slice(2));
+        sounds.at(-1).air += `${line}\n`;
+    }
+    return sounds;
+}
+
+/** Whether what one page has of a message makes up for an entry that another one has. */
+const makesUpFor = (entry) => (other) => other.channel === entry.channel && identityOf(other) === identityOf(entry)
+    && Math.abs(other.moment - entry.moment) < 237600 && (isGood(other) || !isBetter(entry, other));
+
+/** As one sound each file gives the log that it should. As several no message is lost or worse than it would be
+ *  without families. */
+async function triesChance() {
+    const receiver = await Receiver.load(module, FAMILIES);
+    const chance = chanceOf(24);
+    let better = 0;
+    for (const [air, log] of byChance()) {
+        assert.equal(joined(entriesOf(receiver, air, Infinity)), log);
+        const [page, alone] = [await keptOver(), await over(module, storeOf(), 0)];
+        for (const { moment, air: sound } of soundsOf(air, chance)) {
+            for (const one of [page, alone]) await printed(one, sound, moment);
+        }
+        const added = page.told.added;
+        for (const entry of alone.told.added) {
+            assert.ok(added.some(makesUpFor(entry)), `${entry.log}is lost:\n${joined(added)}${air}`);
+        }
+        better += added.filter(({ sendings }) => sendings > 1).length;
+        assert.deepEqual(page.told.faults, []);
+    }
+    assert.ok(better > FILES / 10, `only ${better} entries are put together`);
 }
 
 /** A moment that goes back has no effect where a message isn't whole; where all are, it has one. */
@@ -215,6 +277,7 @@ await triesCut();
 await triesThree();
 await triesCommands();
 await triesBack();
+await triesChance();
 await triesManySounds();
 await triesSmallMemory();
 console.log('ci/web: by node: several sendings together');

@@ -3,6 +3,7 @@ import { KeptReceiver } from '../keep/kept.js';
 import { Receiver } from '../receiver/receiver.js';
 
 export const NOW = 1735700000;
+const LATER = 1767225600; // later than each moment of a trial
 export const FAMILIES = 60; // as the page takes them
 
 /** The log of what was printed. */
@@ -40,11 +41,12 @@ export async function keptOver(module, store, families = FAMILIES) {
     return { kept, told };
 }
 
-/** What a receiver prints of an air file, and how many messages of it were new, known and refused. */
-export async function printed({ kept, told }, air) {
+/** What a receiver prints of an air file, and how many messages of it were new, known and refused. What has no
+ *  moment in it is heard at `start`. */
+export async function printed({ kept, told }, air, start = NOW) {
     const before = told.added.length;
-    const run = kept.begin(NOW);
+    const run = kept.begin(start);
     for (const line of air.split('\n').slice(0, -1)) kept.take(line);
-    await kept.endOfSound(NOW);
+    await kept.endOfSound(LATER);
     return { log: joined(told.added.slice(before)), ...run.counts };
 }
