@@ -86,13 +86,13 @@ export class SoundRun {
     }
 }
 
-/** What the end of a sound prints: what closing the receiver prints, and what a pause does where that is
+/** What the end of a sound prints: what closing the receiver prints, or what a pause does where that is
  *  better, since there less noise is taken for words. From how many sendings it is the pause alone tells. */
 function endOf(closing, paused) {
     const sendingsOf = (entry) => paused.find((other) => isSame(entry, other))?.sendings;
-    const isLess = (entry) => closing.some((other) => isSame(entry, other) && !isBetter(entry, other));
-    return [...closing.map((entry) => ({ ...entry, sendings: sendingsOf(entry) })),
-        ...paused.filter((entry) => !isLess(entry))];
+    const better = paused.filter((entry) => closing.every((other) => !isSame(entry, other) || isBetter(entry, other)));
+    const others = closing.filter((entry) => !better.some((other) => isSame(entry, other)));
+    return [...others.map((entry) => ({ ...entry, sendings: sendingsOf(entry) })), ...better];
 }
 
 /** The entries of a list that another one hasn't; of the same ones as many as there are more. */

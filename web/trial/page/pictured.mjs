@@ -28,6 +28,7 @@ export function options(room) {
 
 async function keepsPicture({ browser, tab, room, pictures }) {
     await browser.allow('microphone');
+    await tab.touch(); // or the alarm can't ring, and says so
     writeFileSync(`${room}/navtex.air`, heard().air);
     await tab.hear(`${room}/navtex.air`);
     for (const identity of READ) await tab.press(`#list button[aria-label="Mark ${identity} as read"]`);
