@@ -1,10 +1,10 @@
 // The receiver with its messages: whatever is printed is kept at once, with the state behind it. After
 // a reload it goes on from there, so that nothing is lost and nothing is printed again.
+import { Messages } from '../receiver/copies.js';
 import { entriesOf, entryAt, isWhole, lineOf } from '../receiver/entries.js';
 import { ReceiverFault } from '../receiver/receiver.js';
 import { SoundRun } from '../receiver/run.js';
 import { EMPTY_STATE, refusedIn, stateAt, stateForgotten, stateRefusing, stateWith } from '../receiver/state.js';
-import { Messages } from '../show/copies.js';
 import { LostFault, StoreFault } from './store.js';
 
 const AT_ONCE = 200; // entries of a log after which the page may do something else

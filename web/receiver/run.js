@@ -1,7 +1,7 @@
 // One sound or one air file, as two receivers hear it: ours, and a witness that refuses and remembers
 // nothing. What the witness alone prints was refused or is known, so each sound can say how many.
-import { isBetter, Messages } from '../show/copies.js';
 import { AirRun, readLine } from './air.js';
+import { isBetter, Messages } from './copies.js';
 import { entryAt, identityOf, isWhole } from './entries.js';
 import { CHANNELS } from './receiver.js';
 import { refusedIn } from './state.js';

@@ -6,9 +6,9 @@ import { spawnSync } from 'node:child_process';
 import { readFileSync, readdirSync } from 'node:fs';
 import { fileURLToPath } from 'node:url';
 import { AirRun } from '../receiver/air.js';
+import { isBetter } from '../receiver/copies.js';
 import { identityOf, isGood } from '../receiver/entries.js';
 import { Receiver } from '../receiver/receiver.js';
-import { isBetter } from '../show/copies.js';
 import { chanceOf } from './chance.mjs';
 import { FAMILIES, joined, keptOver as over, printed, storeOf } from './over.mjs';
 

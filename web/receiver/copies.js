@@ -1,5 +1,5 @@
 // Entries of one message, as one: the best of them is shown, and the others stand behind it.
-import { identityOf } from '../receiver/entries.js';
+import { identityOf } from './entries.js';
 
 const APART = 237600; // seconds, 66 hours; what is further apart is another message of that number
 
