@@ -5,11 +5,13 @@ import assert from 'node:assert/strict';
 import { spawnSync } from 'node:child_process';
 import { readFileSync, readdirSync } from 'node:fs';
 import { fileURLToPath } from 'node:url';
+import { Demodulator } from '../demodulator.js';
 import { AirRun } from '../receiver/air.js';
 import { isBetter } from '../receiver/copies.js';
 import { identityOf, isGood } from '../receiver/entries.js';
 import { Receiver } from '../receiver/receiver.js';
 import { chanceOf } from './chance.mjs';
+import { NOISY, noisySendings, RATE } from './noisy.mjs';
 import { FAMILIES, joined, keptOver as over, printed, storeOf } from './over.mjs';
 
 const EXAMPLES = new URL('../../examples/', import.meta.url);
@@ -107,6 +109,27 @@ async function triesTwoSounds() {
     assert.deepEqual(await printed(page, airOf(M2, bitsOf(second))),
         { log: '', heard: 1, added: 0, known: 1, refused: 0, notWhole: 0 });
     assert.deepEqual([...page.told.faults, ...later.told.faults], []);
+}
+
+/** What the page's demodulator makes of samples, as an air file that begins at a moment. */
+function airOfSound(samples, begin) {
+    const demodulator = new Demodulator({ rate: RATE, search: true });
+    const told = [...demodulator.push(samples), ...demodulator.finish()];
+    return told.map(({ moment, bits }) => `${airOf(begin + Math.floor(moment), bits)}`).join('');
+}
+
+/** Two recordings with noise, of which each has holes: together they are whole. */
+async function triesNoise() {
+    const page = await keptOver();
+    const [first, second] = noisySendings().map((samples, at) => airOfSound(samples, [M0, M1][at]));
+    const alone = await over(module, storeOf(), 0);
+    await printed(alone, first);
+    await printed(alone, second);
+    assert.ok(alone.kept.messages.every(({ errors }) => errors > 2), joined(alone.kept.messages));
+    await printed(page, first);
+    await printed(page, second);
+    const { text, how, errors, sendings } = page.kept.messages.at(-1);
+    assert.deepEqual([text, how, errors, sendings], [NOISY.text, 'full', 0, 2]);
 }
 
 /** One sound has both: the message counts once, and is whole. */
@@ -284,6 +307,7 @@ await triesExamples();
 await triesProgram();
 await triesTwoSounds();
 await triesOneSound();
+await triesNoise();
 await triesCut();
 await triesEnding();
 await triesThree();
