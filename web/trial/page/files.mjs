@@ -9,7 +9,8 @@ async function triesAirFile({ tab }) {
     assert.deepEqual(await tab.hear(path('heard-badly.air')),
         ['heard-badly.air: 1 message heard: 1 new, 0 known, 0 refused.'], 'twice in one sound');
     assert.deepEqual(await tab.titles(), ['New EA01: station E, A navigational warning, number 01']);
-    assert.match((await tab.textsOf('#list .facts'))[0], /complete, none of 25 letters lost$/, 'the best copy');
+    assert.match((await tab.textsOf('#list .facts'))[0], /complete, none of 25 letters lost, from 2 sendings$/,
+        'the best copy');
     assert.deepEqual(await tab.textsOf('#list summary'), ['1 other copy of it, 1 not read yet']);
     assert.equal((await tab.textsOf('#list .copies mark.lost')).length, 1);
     assert.match(await tab.textOf('look'), /ZCZC EA01/);
