@@ -69,7 +69,8 @@ enum nx_status {
     NX_NO_CHANNEL = 34,        /* the number is not 0, 1 or 2 */
     NX_NO_ELEMENT = 35,        /* a byte is not 0 or 1 */
     NX_NO_SUBJECT = 36,        /* the byte is no letter A to Z */
-    NX_NO_ENTRY = 37           /* the bytes begin with no entry of a log */
+    NX_NO_ENTRY = 37,          /* the bytes begin with no entry of a log */
+    NX_TOO_MANY_FAMILIES = 38  /* a receiver can't hold so many */
 };
 
 /* Where a fault stands. What the fault doesn't have is 0. */
@@ -122,8 +123,18 @@ uint64_t nx_slot(uint8_t station, uint64_t moment);
 /* ---- a receiver that is kept between calls ----
  *
  * It hears elements as they come, of three channels at once: each is a frequency with a receiver of
- * its own. The log of a file through these calls is that of nx_listen. It takes all of its memory when
- * it is opened, one block of 27 kB, and gives it back when it is closed; no call between takes any.
+ * its own. Where it is opened with no families, the log of a file through these calls is that of
+ * nx_listen.
+ *
+ * A family is what the sendings of one message so far give, taken together position by position. A
+ * receiver that is opened with so many families holds the last so many on each channel. Its log is
+ * then that of `navtex listen --combine`, which holds 200. A message that has become better is
+ * printed once more; nx_sendings says from how many sendings an entry is put together. Families are
+ * no part of a state: behind nx_open_from they begin anew.
+ *
+ * It takes all of its memory when it is opened, and gives it back when it is closed; no call between
+ * takes any. That is 22 kB without families; with them it is 20 kB for each channel, and 8.2 kB for
+ * each family, so 5 MB for 200 families on each of the three channels.
  *
  * What a caller owes for it: it begins as {0}, and is never written or copied; each call on it has
  * ended before the next begins, on one thread. It is closed or abandoned before it is forgotten.
@@ -135,14 +146,19 @@ struct nx_receiver {
 /* Room for this many bytes holds each entry. */
 #define NX_MAX_ENTRY 4163
 
-/* Opens a closed receiver at a moment, in seconds since 1970-01-01 00:00:00 UTC. NX_ALREADY_OPEN,
- * NX_MOMENT_RANGE or NX_MEMORY: it stays as it was. */
-uint32_t nx_open(struct nx_receiver *receiver, uint64_t moment);
+/* The most families that a receiver holds on a channel. */
+#define NX_MAX_FAMILIES 200
 
-/* Opens a closed receiver from the text of a state, as nx_save writes it: it remembers the state's
- * entries, has its selection, and the greatest moment of an entry. What lies behind the text isn't
- * read. NX_ALREADY_OPEN, NX_STATE_LINE, NX_STATE_CUT or NX_MEMORY: it stays as it was. */
-uint32_t nx_open_from(struct nx_receiver *receiver, const uint8_t *state, size_t length);
+/* Opens a closed receiver at a moment, in seconds since 1970-01-01 00:00:00 UTC, with so many families
+ * on each channel, at most NX_MAX_FAMILIES; 0: each sending is taken alone. NX_ALREADY_OPEN,
+ * NX_TOO_MANY_FAMILIES, NX_MOMENT_RANGE or NX_MEMORY: it stays as it was. */
+uint32_t nx_open(struct nx_receiver *receiver, uint64_t moment, size_t families);
+
+/* Opens a closed receiver from the text of a state, as nx_save writes it, with so many families: it
+ * remembers the state's entries, has its selection, and the greatest moment of an entry. What lies
+ * behind the text isn't read. NX_ALREADY_OPEN, NX_TOO_MANY_FAMILIES, NX_STATE_LINE, NX_STATE_CUT or
+ * NX_MEMORY: it stays as it was. */
+uint32_t nx_open_from(struct nx_receiver *receiver, const uint8_t *state, size_t length, size_t families);
 
 /* Hears elements of a channel, 0 to 2, each a byte, 1 for B and 0 for Y: up to and with the one that
  * ends the first message that is printed. `heard` is how many it heard, and `written` the length of
@@ -151,6 +167,11 @@ uint32_t nx_open_from(struct nx_receiver *receiver, const uint8_t *state, size_t
  * or NX_NO_ELEMENT nothing was heard, and heard and written are 0. */
 uint32_t nx_hear(struct nx_receiver *receiver, uint8_t channel, const uint8_t *elements, size_t count,
                  size_t *heard, uint8_t *log, size_t capacity, size_t *written);
+
+/* Writes from how many sendings the entry is put together that a channel printed last: more than 1
+ * only where it was taken together with its family, 0 before the first. NX_CLOSED or NX_NO_CHANNEL: 0
+ * is written. */
+uint32_t nx_sendings(struct nx_receiver *receiver, uint8_t channel, uint64_t *sendings);
 
 /* Sets the moment from here on, of all channels. NX_MOMENT_RANGE, NX_MOMENT_BACK or NX_CLOSED: it
  * stays as it was. */
@@ -165,7 +186,7 @@ uint32_t nx_refuse_subject(struct nx_receiver *receiver, uint8_t channel, uint8_
 uint32_t nx_accept_subject(struct nx_receiver *receiver, uint8_t channel, uint8_t subject);
 
 /* Writes the text of a state, with which nx_open_from goes on after a power cut: of each channel the
- * last 200 entries, and what is selected. A message that stands open is no part of it. */
+ * last 200 entries, and what is selected. A message that stands open and families are no part of it. */
 uint32_t nx_save(struct nx_receiver *receiver, uint8_t *state, size_t capacity, size_t *written);
 
 /* Ends the elements of all channels, and hands out what their end prints, by channel: one entry a

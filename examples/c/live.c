@@ -1,6 +1,7 @@
 /* Hears elements as they come: each 0 or 1 of the standard input is one, of channel 0, and other
  * bytes are passed over. Writes each entry as soon as its message is over. The moment is the
- * clock's, or the first argument. */
+ * clock's, or the first argument; the second one says how many families are held, none if left
+ * out. */
 #include "navtex.h"
 #include <stdio.h>
 #include <stdlib.h>
@@ -26,7 +27,8 @@ int main(int argument_count, char **arguments) {
     uint8_t bytes[64], log[NX_MAX_ENTRY];
     size_t heard, written;
     uint64_t now = argument_count > 1 ? strtoull(arguments[1], NULL, 10) : (uint64_t)time(NULL);
-    uint32_t status = nx_open(&receiver, now);
+    size_t families = argument_count > 2 ? strtoul(arguments[2], NULL, 10) : 0;
+    uint32_t status = nx_open(&receiver, now, families);
     for (ssize_t count; status == NX_DONE && (count = read(0, bytes, sizeof bytes)) > 0;) {
         size_t length = elements_of(bytes, (size_t)count);
         if (argument_count == 1) /* a clock that went back changes nothing */

@@ -1,23 +1,28 @@
 /* The receiver that is kept between calls, on an air file on standard input, whose lines are given
  * to it one by one:
  *
- *   stream hear PIECE                writes the log; elements are given in pieces of so many
- *   stream resume STATE NEW          the same in pieces of 7, from the state in the file STATE; the
+ *   stream hear PIECE FAMILIES       writes the log; elements are given in pieces of so many, and so
+ *                                    many families are held on each channel
+ *   stream sendings FAMILIES         says of each entry that isn't printed by the end on which
+ *                                    channel it was printed, and from how many sendings it is put
+ *                                    together
+ *   stream resume STATE NEW FAMILIES the log in pieces of 7, from the state in the file STATE; the
  *                                    new one goes to the file NEW
  *   stream entries                   reads a log on standard input entry by entry, and writes each
  *                                    again by what it says
- *   stream refusals                  what calls answer that are refused
- *   stream rooms                     opens from states of 0 to 600 entries, with 0 to 26 stations
+ *   stream refusals FAMILIES         what calls answer that are refused
+ *   stream rooms FAMILIES            opens from states of 0 to 600 entries, with 0 to 26 stations
  *                                    and all the subjects that can be refused, and saves each into
  *                                    rooms up to the one that it needs
- *   stream blocks                    closes one receiver that heard, and abandons two; how many
+ *   stream blocks FAMILIES           closes one receiver that heard, and abandons two; how many
  *                                    blocks of memory are left of each
- *   stream days N                    hears three channels for so many days without a block of
+ *   stream days N FAMILIES           hears three channels for so many days without a block of
  *                                    memory; how many entries
- *   stream fail                      opens while each block of memory is refused in turn, hears
+ *   stream fail FAMILIES             opens while each block of memory is refused in turn, hears
  *                                    and saves without any, and opens from the state while each is
- *                                    refused
- *   stream speed PIECE TIMES         hears all elements so often, and says how many nanoseconds of
+ *                                    refused; how many blocks opening took, and how many bytes
+ *   stream speed PIECE TIMES FAMILIES
+ *                                    hears all elements so often, and says how many nanoseconds of
  *                                    the processor one took
  *
  * The status is 0, or 2 with the status of a call on standard error. */
@@ -48,9 +53,23 @@ static uint8_t channel_of(const char **at) {
     return channel;
 }
 
+/* What is written of what a receiver prints. */
+enum written { ENTRIES, SENDINGS };
+static enum written writes = ENTRIES;
+
+/* Writes an entry of a channel that was printed, or from how many sendings it is. */
+static void write_entry(struct nx_receiver *receiver, uint8_t channel, size_t written) {
+    uint64_t sendings;
+    if (writes == ENTRIES) {
+        fwrite(room, 1, written, stdout);
+    } else if (written > 0) {
+        done("nx_sendings", nx_sendings(receiver, channel, &sendings));
+        printf("%u %" PRIu64 "\n", channel, sendings);
+    }
+}
+
 /* Hears the digits of a line in pieces. */
-static void hear(struct nx_receiver *receiver, uint8_t channel, const char *digits, size_t count, size_t piece,
-                 int print) {
+static void hear(struct nx_receiver *receiver, uint8_t channel, const char *digits, size_t count, size_t piece) {
     static uint8_t elements[1024];
     for (size_t at = 0; at < count; at++)
         elements[at] = (uint8_t)(digits[at] - '0');
@@ -59,8 +78,7 @@ static void hear(struct nx_receiver *receiver, uint8_t channel, const char *digi
         done("nx_hear", nx_hear(receiver, channel, elements + at, next, &heard, room, sizeof room, &written));
         if (written == 0 && heard != next)
             stop("nx_hear heard not all", 0);
-        if (print)
-            fwrite(room, 1, written, stdout);
+        write_entry(receiver, channel, written);
     }
 }
 
@@ -82,7 +100,7 @@ static void give(struct nx_receiver *receiver, const char *line, size_t piece) {
         return;
     case 'B':
         channel = channel_of(&at);
-        hear(receiver, channel, at, strcspn(at, "\n"), piece, 1);
+        hear(receiver, channel, at, strcspn(at, "\n"), piece);
         return;
     default:
         at = line + 2;
@@ -99,7 +117,8 @@ static void close_all(struct nx_receiver *receiver) {
     size_t written;
     do {
         done("nx_close", nx_close(receiver, room, sizeof room, &written));
-        fwrite(room, 1, written, stdout);
+        if (writes == ENTRIES)
+            fwrite(room, 1, written, stdout);
     } while (written > 0);
     if (receiver->kept != NULL)
         stop("nx_close left a receiver", 0);
@@ -111,15 +130,15 @@ static void give_file(struct nx_receiver *receiver, size_t piece) {
         give(receiver, line, piece);
 }
 
-static int hear_file(size_t piece) {
+static int hear_file(size_t piece, size_t families) {
     struct nx_receiver receiver = {0};
-    done("nx_open", nx_open(&receiver, 0));
+    done("nx_open", nx_open(&receiver, 0, families));
     give_file(&receiver, piece);
     close_all(&receiver);
     return 0;
 }
 
-static int resume(const char *state_name, const char *new_name, size_t piece) {
+static int resume(const char *state_name, const char *new_name, size_t piece, size_t families) {
     struct nx_receiver receiver = {0};
     static uint8_t state[1 << 14];
     size_t written;
@@ -128,7 +147,7 @@ static int resume(const char *state_name, const char *new_name, size_t piece) {
         stop("there is no such file", 0);
     size_t length = fread(state, 1, sizeof state, from);
     fclose(from);
-    done("nx_open_from", nx_open_from(&receiver, state, length));
+    done("nx_open_from", nx_open_from(&receiver, state, length, families));
     give_file(&receiver, piece);
     is_without_room(&receiver);
     done("nx_save", nx_save(&receiver, state, sizeof state, &written));
@@ -162,10 +181,11 @@ static void is(const char *what, uint32_t status, uint32_t wanted) {
 }
 
 /* No call on a closed receiver changes it; no call that is refused changes an open one. */
-static int refusals(void) {
+static int refusals(size_t families) {
     struct nx_receiver receiver = {0};
     uint8_t one[] = {1}, two[] = {2}, state[1 << 14];
     size_t heard = 9, written = 9;
+    uint64_t sendings = 9;
     is("hear, closed", nx_hear(&receiver, 0, one, 1, &heard, room, sizeof room, &written), NX_CLOSED);
     if (heard != 0 || written != 0)
         stop("a closed receiver heard", 0);
@@ -176,15 +196,23 @@ static int refusals(void) {
     is("subject, closed", nx_accept_subject(&receiver, 0, 'E'), NX_CLOSED);
     is("close, closed", nx_close(&receiver, room, sizeof room, &written), NX_CLOSED);
     is("save, closed", nx_save(&receiver, state, sizeof state, &written), NX_CLOSED);
-    is("open from no state", nx_open_from(&receiver, (const uint8_t *)"X\n", 2), NX_STATE_LINE);
-    is("open from a cut state", nx_open_from(&receiver, (const uint8_t *)"STATE 1\n", 8), NX_STATE_CUT);
+    is("sendings, closed", nx_sendings(&receiver, 0, &sendings), NX_CLOSED);
+    if (sendings != 0)
+        stop("a closed receiver told a number of sendings", 0);
+    is("open from no state", nx_open_from(&receiver, (const uint8_t *)"X\n", 2, families), NX_STATE_LINE);
+    is("open from a cut state", nx_open_from(&receiver, (const uint8_t *)"STATE 1\n", 8, families), NX_STATE_CUT);
+    is("open from a state with 201 families", nx_open_from(&receiver, (const uint8_t *)"X\n", 2, 201),
+       NX_TOO_MANY_FAMILIES);
     nx_abandon(&receiver);
-    is("open past the year 2999", nx_open(&receiver, 32503680000), NX_MOMENT_RANGE);
+    is("open past the year 2999", nx_open(&receiver, 32503680000, families), NX_MOMENT_RANGE);
+    is("open with 201 families", nx_open(&receiver, 32503680000, 201), NX_TOO_MANY_FAMILIES);
+    is("open with the most families that a size_t names", nx_open(&receiver, 100, SIZE_MAX), NX_TOO_MANY_FAMILIES);
     if (receiver.kept != NULL)
         stop("a receiver that wasn't opened is open", 0);
-    done("open", nx_open(&receiver, 100));
+    done("open", nx_open(&receiver, 100, families));
     void *kept = receiver.kept;
-    is("open, open", nx_open(&receiver, 100), NX_ALREADY_OPEN);
+    is("open, open", nx_open(&receiver, 100, 201), NX_ALREADY_OPEN);
+    is("open from a state, open", nx_open_from(&receiver, (const uint8_t *)"X\n", 2, 201), NX_ALREADY_OPEN);
     if (receiver.kept != kept)
         stop("an open receiver was opened again", 0);
     is("moment back", nx_set_moment(&receiver, 99), NX_MOMENT_BACK);
@@ -192,6 +220,10 @@ static int refusals(void) {
     is("channel", nx_hear(&receiver, 3, one, 1, &heard, room, sizeof room, &written), NX_NO_CHANNEL);
     is("element", nx_hear(&receiver, 0, two, 1, &heard, room, sizeof room, &written), NX_NO_ELEMENT);
     is("room", nx_hear(&receiver, 0, one, 1, &heard, room, sizeof room - 1, &written), NX_NO_ROOM);
+    sendings = 9;
+    is("sendings, channel", nx_sendings(&receiver, 3, &sendings), NX_NO_CHANNEL);
+    if (sendings != 0)
+        stop("a channel that isn't there told a number of sendings", 0);
     is("station", nx_refuse_station(&receiver, 0, 'e'), NX_NO_STATION);
     is("station", nx_refuse_station(&receiver, 3, 'E'), NX_NO_CHANNEL);
     is("subject", nx_refuse_subject(&receiver, 0, '0'), NX_NO_SUBJECT);
@@ -227,12 +259,12 @@ static size_t state_of(char *text, unsigned entries, unsigned letters) {
 
 /* Opens from such a state, and saves it into rooms up to the one that it needs; says how long it
  * is. */
-static size_t save_in_rooms(unsigned entries, unsigned letters, size_t step) {
+static size_t save_in_rooms(unsigned entries, unsigned letters, size_t step, size_t families) {
     static char state[1 << 15];
     static uint8_t saved[sizeof state];
     struct nx_receiver receiver = {0};
     size_t length = state_of(state, entries, letters), written;
-    done("open from a state", nx_open_from(&receiver, (const uint8_t *)state, length));
+    done("open from a state", nx_open_from(&receiver, (const uint8_t *)state, length, families));
     for (size_t size = 0; size < length; size += step) {
         is("save in a room that is too small", nx_save(&receiver, saved, size, &written), NX_NO_ROOM);
         if (written != length)
@@ -251,12 +283,12 @@ static size_t save_in_rooms(unsigned entries, unsigned letters, size_t step) {
 
 /* States of 0 to 600 entries; of 600 with 0 to 26 letters refused, the last of which is the longest
  * that there is; and of that each room. */
-static int rooms(void) {
+static int rooms(size_t families) {
     for (unsigned entries = 0; entries <= 600; entries++)
-        save_in_rooms(entries, 0, 997);
+        save_in_rooms(entries, 0, 997, families);
     for (unsigned letters = 0; letters <= 26; letters++)
-        save_in_rooms(600, letters, 997);
-    if (save_in_rooms(600, 26, 1) != 10941)
+        save_in_rooms(600, letters, 997, families);
+    if (save_in_rooms(600, 26, 1, families) != 10941)
         stop("the longest state has another length", NX_DONE);
     return 0;
 }
@@ -273,11 +305,11 @@ static size_t elements_in(uint8_t *elements, size_t most) {
 }
 
 /* Elements of a file on channel 0, over and over; how long one takes. */
-static int speed(size_t piece, size_t times) {
+static int speed(size_t piece, size_t times, size_t families) {
     static uint8_t elements[1 << 22];
     struct nx_receiver receiver = {0};
     size_t count = elements_in(elements, sizeof elements), heard, written;
-    done("nx_open", nx_open(&receiver, 0));
+    done("nx_open", nx_open(&receiver, 0, families));
     clock_t from = clock();
     for (size_t time = 0; time < times; time++)
         for (size_t at = 0; at < count; at += heard) {
@@ -293,8 +325,9 @@ static int speed(size_t piece, size_t times) {
 #ifdef FAIL
 /* The blocks of memory that are asked for: the one with this number is refused. */
 static long left = -1;
-/* How many blocks are in use. */
+/* How many blocks are in use, and how many bytes were asked for. */
 static long in_use = 0;
+static size_t asked = 0;
 
 struct tried {
     _Bool ok;
@@ -314,11 +347,12 @@ static struct tried tried(void *block) {
 struct tried rattle_alloc(size_t size, size_t align) {
     void *block = is_refused() ? NULL : malloc(size > 0 ? size : align);
     in_use += block != NULL;
+    asked += size;
     return tried(block);
 }
 
 struct tried rattle_realloc(void *block, size_t kept, size_t size, size_t align) {
-    (void)kept;
+    asked += size - kept;
     return tried(is_refused() ? NULL : realloc(block, size > 0 ? size : align));
 }
 
@@ -329,11 +363,11 @@ void rattle_dealloc(void *block) {
 
 /* So many days of three channels, of the elements of a file over and over; no block of memory is
  * given. */
-static int days(size_t count) {
+static int days(size_t count, size_t families) {
     static uint8_t elements[1 << 22];
     struct nx_receiver receiver = {0};
     size_t length = elements_in(elements, sizeof elements), heard, written, entries = 0;
-    done("nx_open", nx_open(&receiver, 0));
+    done("nx_open", nx_open(&receiver, 0, families));
     left = 0;
     for (size_t day = 0; day < count; day++) {
         done("nx_set_moment", nx_set_moment(&receiver, day * 86400));
@@ -351,41 +385,55 @@ static int days(size_t count) {
 }
 
 /* Hears the file, and closes the receiver; abandons one that was opened, and one from a state. */
-static int blocks(void) {
+static int blocks(size_t families) {
     struct nx_receiver receiver = {0};
     uint8_t state[64];
     size_t written;
-    done("nx_open", nx_open(&receiver, 0));
+    done("nx_open", nx_open(&receiver, 0, families));
     done("nx_save", nx_save(&receiver, state, sizeof state, &written));
     give_file(&receiver, 7);
     close_all(&receiver);
     fprintf(stderr, "%ld", in_use);
-    done("nx_open", nx_open(&receiver, 0));
+    done("nx_open", nx_open(&receiver, 0, families));
     nx_abandon(&receiver);
     fprintf(stderr, " %ld", in_use);
-    done("nx_open_from", nx_open_from(&receiver, state, written));
+    done("nx_open_from", nx_open_from(&receiver, state, written, families));
     nx_abandon(&receiver);
     fprintf(stderr, " %ld\n", in_use);
     return 0;
 }
 
+/* A receiver that found no memory is closed, and no block is left of it. */
+static void is_closed_whole(const struct nx_receiver *receiver, long before) {
+    if (receiver->kept != NULL || in_use != before)
+        stop("of a receiver without memory something is left", NX_MEMORY);
+}
+
+/* Where a moment or a state is refused, that is said, also without memory. */
+static void fail_refused(size_t families) {
+    struct nx_receiver receiver = {0};
+    left = 0;
+    is("moment range, without memory", nx_open(&receiver, 32503680000, families), NX_MOMENT_RANGE);
+    left = 0;
+    is("no state, without memory", nx_open_from(&receiver, (const uint8_t *)"X\n", 2, families), NX_STATE_LINE);
+}
+
 /* Saves without a block, and opens another receiver from that state with each block refused in
  * turn, until it is opened. */
-static void fail_saving(struct nx_receiver *receiver) {
+static void fail_saving(struct nx_receiver *receiver, size_t families) {
     static uint8_t state[1 << 14];
     size_t written;
     uint32_t status;
     left = 0;
     done("save without memory", nx_save(receiver, state, sizeof state, &written));
     struct nx_receiver other = {0};
-    long block = 0;
+    long block = 0, before = in_use;
     do {
         left = block++;
-        status = nx_open_from(&other, state, written);
+        status = nx_open_from(&other, state, written, families);
         if (status != NX_DONE) {
             is("open from a state without memory", status, NX_MEMORY);
-            if (other.kept != NULL)
-                stop("a receiver without memory is open", status);
+            is_closed_whole(&other, before);
         }
     } while (status != NX_DONE);
     nx_abandon(&other);
@@ -393,50 +441,61 @@ static void fail_saving(struct nx_receiver *receiver) {
 
 /* Opens with each block refused in turn, until it is opened; then no block is given, and all is
  * heard. */
-static int fail(void) {
-    for (long block = 0;; block++) {
-        struct nx_receiver receiver = {0};
-        left = block;
-        uint32_t status = nx_open(&receiver, 0);
-        if (status == NX_DONE) {
-            char line[1024];
-            left = 0;
-            while (fgets(line, sizeof line, stdin) != NULL)
-                give(&receiver, line, 7);
-            fail_saving(&receiver);
-            left = 0;
-            close_all(&receiver);
-            fprintf(stderr, "%ld\n", block);
-            return 0;
+static int fail(size_t families) {
+    struct nx_receiver receiver = {0};
+    uint32_t status;
+    long block = 0;
+    do {
+        left = block++;
+        asked = 0;
+        status = nx_open(&receiver, 0, families);
+        if (status != NX_DONE) {
+            is("open without memory", status, NX_MEMORY);
+            is_closed_whole(&receiver, 0);
+            fail_refused(families);
         }
-        is("open without memory", status, NX_MEMORY);
-        if (receiver.kept != NULL)
-            stop("a receiver without memory is open", status);
-    }
+    } while (status != NX_DONE);
+    fprintf(stderr, "%ld blocks of %zu bytes\n", block - 1, asked);
+    left = 0;
+    give_file(&receiver, 7);
+    fail_saving(&receiver, families);
+    left = 0;
+    close_all(&receiver);
+    is_closed_whole(&receiver, 0);
+    return 0;
 }
 #endif
 
+static size_t number(const char *text) {
+    return strtoul(text, NULL, 10);
+}
+
 int main(int count, char **arguments) {
     const char *name = count > 1 ? arguments[1] : "";
-    if (count == 3 && strcmp(name, "hear") == 0)
-        return hear_file(strtoul(arguments[2], NULL, 10));
-    if (count == 4 && strcmp(name, "resume") == 0)
-        return resume(arguments[2], arguments[3], 7);
+    size_t families = count > 2 ? number(arguments[count - 1]) : 0;
+    if (count == 4 && strcmp(name, "hear") == 0)
+        return hear_file(number(arguments[2]), families);
+    if (count == 3 && strcmp(name, "sendings") == 0) {
+        writes = SENDINGS;
+        return hear_file(7, families);
+    }
+    if (count == 5 && strcmp(name, "resume") == 0)
+        return resume(arguments[2], arguments[3], 7, families);
     if (count == 2 && strcmp(name, "entries") == 0)
         return entries();
-    if (count == 2 && strcmp(name, "refusals") == 0)
-        return refusals();
-    if (count == 2 && strcmp(name, "rooms") == 0)
-        return rooms();
-    if (count == 4 && strcmp(name, "speed") == 0)
-        return speed(strtoul(arguments[2], NULL, 10), strtoul(arguments[3], NULL, 10));
+    if (count == 3 && strcmp(name, "refusals") == 0)
+        return refusals(families);
+    if (count == 3 && strcmp(name, "rooms") == 0)
+        return rooms(families);
+    if (count == 5 && strcmp(name, "speed") == 0)
+        return speed(number(arguments[2]), number(arguments[3]), families);
 #ifdef FAIL
-    if (count == 2 && strcmp(name, "fail") == 0)
-        return fail();
-    if (count == 2 && strcmp(name, "blocks") == 0)
-        return blocks();
-    if (count == 3 && strcmp(name, "days") == 0)
-        return days(strtoul(arguments[2], NULL, 10));
+    if (count == 3 && strcmp(name, "fail") == 0)
+        return fail(families);
+    if (count == 3 && strcmp(name, "blocks") == 0)
+        return blocks(families);
+    if (count == 4 && strcmp(name, "days") == 0)
+        return days(number(arguments[2]), families);
 #endif
     fprintf(stderr, "stream: which trial?\n");
     return 64;

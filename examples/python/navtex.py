@@ -4,8 +4,12 @@
     navtex.py LIBRARY listen < AIR              the log of an air file
     navtex.py LIBRARY resume STATE NEW < AIR    the same, from the state in the file STATE; the new
                                                 state goes to the file NEW
-    navtex.py LIBRARY live PIECE < AIR          the log again, by a receiver that is given the lines
-                                                one by one, their elements in pieces of so many
+    navtex.py LIBRARY live PIECE FAMILIES < AIR the log by a receiver that is given the lines one by
+                                                one, their elements in pieces of so many; it holds
+                                                so many families on each channel
+    navtex.py LIBRARY sendings FAMILIES < AIR   of each entry that isn't printed by the end, on which
+                                                channel it was printed, and from how many sendings
+                                                it is put together
 
 LIBRARY is a shared object, of libnx_c.a; examples/c/check makes one.
 
@@ -17,6 +21,12 @@ A receiver that hears elements as they come:
             print(entry.station, entry.subject, entry.number, entry.text.decode())
         for entry in receiver.close():
             ...
+
+One that takes the sendings of a message together, 200 messages on each channel:
+
+    with library.receiver(moment, families=200) as receiver:
+        for entry in receiver.hear(elements):
+            print(entry.text.decode(), "from", receiver.sendings(), "sendings")
 """
 
 import ctypes
@@ -52,9 +62,11 @@ class Status(enum.IntEnum):
     NO_ELEMENT = 35
     NO_SUBJECT = 36
     NO_ENTRY = 37
+    TOO_MANY_FAMILIES = 38
 
 
 MAX_ENTRY = 4163
+MAX_FAMILIES = 200
 
 
 class Place(ctypes.Structure):
@@ -126,9 +138,10 @@ class Library:
         for call, words in {
             "nx_listen": [text, size, room, size, count, place],
             "nx_resume": [text, size, text, size, room, size, count, room, size, count, place],
-            "nx_open": [handle, moment],
-            "nx_open_from": [handle, text, size],
+            "nx_open": [handle, moment, size],
+            "nx_open_from": [handle, text, size, size],
             "nx_hear": [handle, byte, text, size, count, room, size, count],
+            "nx_sendings": [handle, byte, ctypes.POINTER(ctypes.c_uint64)],
             "nx_set_moment": [handle, moment],
             "nx_refuse_station": [handle, byte, byte],
             "nx_accept_station": [handle, byte, byte],
@@ -143,9 +156,10 @@ class Library:
         self._library.nx_abandon.argtypes = [handle]
         self._library.nx_abandon.restype = None
 
-    def receiver(self, moment=None, state=None):
-        """A receiver that is open: at a moment, or from a state."""
-        return Receiver(self._library, moment, state)
+    def receiver(self, moment=None, state=None, families=0):
+        """A receiver that is open, at a moment or from a state, and holds so many families on each
+        channel: with 0 each sending is taken alone."""
+        return Receiver(self._library, moment, state, families)
 
     def entry(self, logged):
         """The entry of a log with which these bytes begin."""
@@ -192,12 +206,12 @@ class Receiver:
     """A receiver that is kept between calls, on three channels. To be used in a `with`, which gives
     its memory back; `close` hands out first what the end prints."""
 
-    def __init__(self, library, moment, state):
+    def __init__(self, library, moment, state, families):
         self._library, self._handle, self._room = library, _Handle(), _Room(MAX_ENTRY)
         if state is None:
-            _done(library.nx_open(self._handle, moment))
+            _done(library.nx_open(self._handle, moment, families))
         else:
-            _done(library.nx_open_from(self._handle, state, len(state)))
+            _done(library.nx_open_from(self._handle, state, len(state), families))
             if moment is not None:
                 self.set_moment(moment)
 
@@ -227,6 +241,12 @@ class Receiver:
             _done(self._library.nx_close(self._handle, self._room.bytes, self._room.size, written))
             if written.value:
                 yield _entry(self._library, self._room.text(written))
+
+    def sendings(self, channel=0):
+        """From how many sendings the entry is put together that the channel printed last."""
+        sendings = ctypes.c_uint64()
+        _done(self._library.nx_sendings(self._handle, channel, sendings))
+        return sendings.value
 
     def set_moment(self, moment):
         _done(self._library.nx_set_moment(self._handle, moment))
@@ -267,9 +287,10 @@ def _log(status, place, log):
     return log
 
 
-def _live(library, air, piece):
-    """The entries of an air file, whose lines are given to a receiver one by one."""
-    with library.receiver(moment=0) as receiver:
+def _live(library, air, piece, families):
+    """The entries of an air file, whose lines are given to a receiver one by one; beside each, from
+    how many sendings it is, where it was printed before the end."""
+    with library.receiver(moment=0, families=families) as receiver:
         for line in air.splitlines():
             word, _, rest = line.decode().partition(" ")
             channel = int(word[-1]) if word[-1].isdecimal() else 0
@@ -278,7 +299,8 @@ def _live(library, air, piece):
             elif word[0] == "B":
                 digits = [int(digit) for digit in rest]
                 for at in range(0, len(digits), piece):
-                    yield from receiver.hear(digits[at : at + piece], channel)
+                    for entry in receiver.hear(digits[at : at + piece], channel):
+                        yield entry, receiver.sendings(channel)
             else:
                 command = {
                     "RS": receiver.refuse_station,
@@ -287,7 +309,8 @@ def _live(library, air, piece):
                     "AJ": receiver.accept_subject,
                 }[word[:2]]
                 command(rest, channel)
-        yield from receiver.close()
+        for entry in receiver.close():
+            yield entry, None
 
 
 def main(library, command, *files):
@@ -295,8 +318,12 @@ def main(library, command, *files):
     if command == "listen":
         sys.stdout.buffer.write(receiver.listen(air))
     elif command == "live":
-        for entry in _live(receiver, air, int(files[0])):
+        for entry, _ in _live(receiver, air, int(files[0]), int(files[1])):
             sys.stdout.buffer.write(entry.logged)
+    elif command == "sendings":
+        for entry, sendings in _live(receiver, air, 7, int(files[0])):
+            if sendings is not None:
+                print(entry.channel, sendings)
     else:
         state, new = map(pathlib.Path, files)
         log, left = receiver.resume(state.read_bytes(), air)

@@ -1,4 +1,5 @@
 -- Lemmas that several proofs cite.
+pub mod Answers
 pub mod HandleValues
 pub mod LooseValues
 pub mod Opening

@@ -1,7 +1,8 @@
 //! The calls of a station and a receiver, for C and what calls C. Those over whole files are calls
 //! of the crates below, with a reader over a slice and a writer into memory. A receiver that is
-//! kept between calls is that of `nx_handle` in a block that is allocated, behind a handle of one
-//! pointer, and hears elements as they come.
+//! kept between calls is that of `nx_handle` in memory that is allocated, behind a handle of one
+//! pointer, and hears elements as they come. It takes the sendings of a message together where it
+//! is opened with families.
 #![tactic(auto)]
 
 mod codes;

@@ -2,6 +2,7 @@
 pub mod Alone
 pub mod Closing
 pub mod Combine
+pub mod Counted
 pub mod Examples
 pub mod Hearing
 pub mod Held
@@ -16,6 +17,7 @@ pub mod Printed
 pub mod Ring
 pub mod Sendings
 pub mod Sent
+pub mod Sharing
 pub mod Silent
 pub mod Sure
 pub mod TakerBits

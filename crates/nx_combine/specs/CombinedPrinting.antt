@@ -64,6 +64,13 @@ printed_combined entries before (one ∷ later) =
     ++ printed_combined (entries ++ entry_made_combined entries before one)
     (if_printed_combined entries before one ++ before) later
 
+-- of the copies that were found, the combined copies that are printed
+abbrev pub combined_of_placed_holding : ℕ → Start → List Event → List PlacedCopy
+    → List CombinedCopy
+combined_of_placed_holding held start events copies =
+    printed_combined start.entries []
+    (combined_copies_holding held [] (heard_copies (first_setting start) events copies))
+
 -- of the copies that were found, what is printed of them, combined
 abbrev pub printed_of_placed_holding : ℕ → Start → List Event → List PlacedCopy → List TaggedCopy
 printed_of_placed_holding held start events copies =
@@ -94,6 +101,32 @@ PrintsHoldingToEnd held start events log = PrintsHolding held placed_to_end star
 
 abbrev pub PrintsCombinedToEnd : Start → List Event → List TaggedCopy → Type 0
 PrintsCombinedToEnd = PrintsHoldingToEnd most_families
+
+-- The last combined copy that is printed after these events, of the copies that are `found` in
+-- their elements, comes to this copy, and is put together from so many sendings.
+pub record PrintsLastHolding (held : ℕ) (found : List Bool → List Lock → Now → List PlacedCopy)
+    (start : Start) (events : List Event) (copy : TaggedCopy) (sendings : ℕ)
+    : Type 0 where
+  pub locks : List Lock
+  pub now : Now
+  pub stands : IsNow (elements_among events) locks now
+  pub earlier : List CombinedCopy
+  pub last : CombinedCopy
+  pub printed : combined_of_placed_holding held start events
+      (found (elements_among events) locks now)
+      ≡ earlier ++ last ∷ []
+  pub comes_to : last.copy ≡ copy
+  pub counted : last.sendings ≡ sendings
+
+-- so after these events
+abbrev pub HasPrintedLastHolding : ℕ → Start → List Event → TaggedCopy → ℕ → Type 0
+HasPrintedLastHolding held start events copy sendings =
+    PrintsLastHolding held ended_placed start events copy sendings
+
+-- so where these events are all
+abbrev pub PrintsLastHoldingToEnd : ℕ → Start → List Event → TaggedCopy → ℕ → Type 0
+PrintsLastHoldingToEnd held start events copy sendings =
+    PrintsLastHolding held placed_to_end start events copy sendings
 
 -- what a receiver prints that takes several sendings together
 abbrev pub combined_holding : ℕ → Printing

@@ -20,7 +20,7 @@ use Rattle.nx_combine.specs.CombinedPrinting.{combined_holding, printed_combined
 use Rattle.nx_combine.specs.CopyPositions.{HeardCopy, PlacedCopy, ended_placed, heard_copies}
 use Rattle.nx_combine.specs.Families.{combined_copies_holding, most_families}
 use Rattle.nx_combine.specs.Judging.{CombinerView, HeldFamilies, Judged, StandsHolding, all_copies}
-use Rattle.nx_combine.specs.Judging.{combiner_of}
+use Rattle.nx_combine.specs.Judging.{combiner_of, sendings_of_last}
 use Rattle.nx_envelope.specs.FinderView.{FinderView}
 use Rattle.nx_combine.specs.Judging.{judged_behind_holding}
 use Rattle.nx_combine.specs.declared.taker.CombinedTaker.{CombinedTaker}
@@ -30,12 +30,14 @@ abbrev pub judged_none : List MemoryEntry → Judged
 judged_none entries = record { entries = entries; families = []; printed = [] }
 
 -- what contracts see of a receiver that combines: its synchroniser, its taker, what judges, whether
--- the text of the entry that it handed out last is what a family gave, and its memory
+-- the text of the entry that it handed out last is what a family gave, from how many sendings that
+-- entry is put together, and its memory
 pub record CombiningReceiver (M : Type 0) : Type 0 where
   pub synchroniser : Held
   pub taker : CombinedTaker
   pub combiner : CombinerView
   pub is_given : Bool
+  pub sendings : ℕ
   pub memory : M
 
 -- what contracts see of such a receiver whose families lie anywhere: in place of what judges, what
@@ -46,6 +48,7 @@ pub record ReceiverOver (S M : Type 0) : Type 0 where
   pub store : S
   pub finder : FinderView
   pub is_given : Bool
+  pub sendings : ℕ
   pub memory : M
 
 -- the same with the families that are held, in this room
@@ -56,6 +59,7 @@ receiver_in held receiver places = record {
   taker = receiver.taker;
   combiner = combiner_of (held receiver.store places) receiver.finder;
   is_given = receiver.is_given;
+  sendings = receiver.sendings;
   memory = receiver.memory;
 }
 
@@ -66,6 +70,7 @@ receiver_held receiver = record {
   taker = receiver.taker;
   combiner = combiner_of receiver.store receiver.finder;
   is_given = receiver.is_given;
+  sendings = receiver.sendings;
   memory = receiver.memory;
 }
 
@@ -86,7 +91,8 @@ text_in receiver =
     else receiver.taker.copies.reader.finder.text
 
 -- After these copies, which begin with this start, this was printed of them, and the combiner and
--- the memory hold what they left. This tells the entries of a memory.
+-- the memory hold what they left, and the number of sendings that of the last that was printed.
+-- This tells the entries of a memory.
 pub record HasJudged (held : ℕ) {M : Type 0} (content : M → List MemoryEntry) (start : Start)
     (receiver : CombiningReceiver M) (copies : List HeardCopy) (log : List TaggedCopy) : Type 0
   where
@@ -99,6 +105,8 @@ pub record HasJudged (held : ℕ) {M : Type 0} (content : M → List MemoryEntry
     pub combiner : StandsHolding held receiver.combiner
         (judged_behind_holding held (judged_none start.entries) copies).families
         (judged_behind_holding held (judged_none start.entries) copies).printed
+    pub sendings : receiver.sendings
+        ≡ sendings_of_last (judged_behind_holding held (judged_none start.entries) copies).printed
 
 -- The receiver stands after these events, which begin with this start, and this is the log of what
 -- it handed out. Its synchroniser and its taker stand after the elements, with what is in force at

@@ -32,3 +32,4 @@ pub record IsCombined (one : CombinedCopy) (families : List Family) (read : List
   pub family : one.family ≡ option_map (λ index. length families - 1 - index) answer.family
   pub copy : one.copy ≡ meant answer.given read one.own.copy
   pub errors : IfSome answer.given (λ head. head.errors ≡ errors_of read)
+  pub sendings : one.sendings ≡ answer.sendings

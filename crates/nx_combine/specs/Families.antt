@@ -1,11 +1,12 @@
 -- Families of copies, and what the copies of one come to together (this profile). The copies are
 -- those of one channel, in the order of their headers. What is named `holding` takes first how many
 -- families are held; what bears the same name without that word is its case of 200.
-use Rattle.std.specs.Prelude.{ℕ, ◌-◌, nat_lt, nat_le, Bool, false, not, ◌&&◌, if◌then◌else◌}
+use Rattle.std.specs.Prelude.{ℕ, ◌+◌, ◌-◌, nat_lt, nat_le, Bool, false, not, ◌&&◌, if◌then◌else◌}
 use Rattle.std.specs.Prelude.{List, [], ◌∷◌, ◌++◌, length, position}
 use Rattle.std.specs.Prelude.{slice_get, slice_set, Option, Some, None, unwrap_or}
 use Rattle.std.specs.Option.{option_and_then, option_map, option_map_or}
 use Rattle.nx_code.specs.Reading.{Reception}
+use Rattle.nx_fec.specs.Transfers.{count_of}
 use Rattle.nx_envelope.specs.Identity.{same_identity}
 use Rattle.nx_envelope.specs.declared.identity.Identity.{Identity}
 use Rattle.nx_memory.specs.Memory.{most_entries, seconds_known}
@@ -15,11 +16,13 @@ use Rattle.nx_combine.specs.CopyPositions.{HeardCopy}
 use Rattle.nx_combine.specs.Joining.{is_of_one_text, joined}
 use Rattle.nx_combine.specs.PositionEnds.{ending_by, up_to_end}
 
--- a family: the identity of its copies, the moment of the first one, and their positions, joined
+-- a family: the identity of its copies, the moment of the first one, their positions, joined, and
+-- how many they are
 pub record Family : Type 0 where
   pub identity : Identity
   pub moment : ℕ
   pub positions : List Reception
+  pub sendings : ℕ
 
 -- the most positions of a copy that has a family
 abbrev pub most_positions : ℕ
@@ -72,11 +75,15 @@ begun_by heard = record {
   identity = heard.copy.identity;
   moment = heard.copy.moment;
   positions = heard.positions;
+  sendings = 1;
 }
 
--- the family after the copy joined it: it has the joined positions, whole
+-- the family after the copy joined it: it has the joined positions, whole, and one copy more
 abbrev pub joined_by : HeardCopy → Family → Family
-joined_by heard family = record family { positions = joined family.positions heard.positions }
+joined_by heard family = record family {
+  positions = joined family.positions heard.positions;
+  sendings = count_of (family.sendings + 1);
+}
 
 -- the families, newest first, after the one of this index was joined
 abbrev pub joined_at : List Family → HeardCopy → ℕ → List Family
@@ -107,13 +114,21 @@ abbrev pub combined : List Reception → TaggedCopy → TaggedCopy
 combined positions copy =
     if is_better copy (given_by positions copy) then copy else given_by positions copy
 
+-- from how many sendings that is put together: from all of the family, where it gives the copy,
+-- and else from the copy alone
+abbrev pub sendings_of : Family → TaggedCopy → ℕ
+sendings_of family copy =
+    if is_better copy (given_by family.positions copy) then 1 else family.sendings
+
 -- A combined copy: the copy that joined last, its family, by how many were begun before that one,
--- the positions of the family, and what it comes to. One that has no family is the copy itself.
+-- the positions of the family, what it comes to, and from how many sendings that is put together.
+-- One that has no family is the copy itself.
 pub record CombinedCopy : Type 0 where
   pub own : HeardCopy
   pub family : Option ℕ
   pub positions : List Reception
   pub copy : TaggedCopy
+  pub sendings : ℕ
 
 -- the combined copy of one that joins no other: it is the copy itself
 abbrev pub alone : Option ℕ → HeardCopy → CombinedCopy
@@ -122,22 +137,24 @@ alone family heard = record {
   family = family;
   positions = heard.positions;
   copy = heard.copy;
+  sendings = 1;
 }
 
--- the combined copy of one that joins the family of so many begun before it, with these positions
-abbrev pub together : ℕ → List Reception → HeardCopy → CombinedCopy
-together number positions heard = record {
+-- the combined copy of one that joined this family, of so many begun before it
+abbrev pub together : ℕ → Family → HeardCopy → CombinedCopy
+together number family heard = record {
   own = heard;
   family = Some number;
-  positions = positions;
-  copy = combined positions heard.copy;
+  positions = family.positions;
+  copy = combined family.positions heard.copy;
+  sendings = sendings_of family heard.copy;
 }
 
 -- the combined copy of one that joins the family of this index, of these, which stand newest first
 abbrev pub combined_at : List Family → HeardCopy → ℕ → CombinedCopy
 combined_at families heard index =
     option_map_or
-    (λ family. together (length families - 1 - index) (joined_by heard family).positions heard)
+    (λ family. together (length families - 1 - index) (joined_by heard family) heard)
     (slice_get families index) (alone None heard)
 
 -- the combined copy of a copy that comes behind these families

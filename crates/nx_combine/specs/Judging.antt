@@ -40,6 +40,12 @@ unfoldable pub all_last_printed : List CombinedCopy → ℕ → List (Option Ent
 all_last_printed before zero = []
 all_last_printed before (suc number) = last_printed before number ∷ all_last_printed before number
 
+-- from how many sendings the last of these combined copies is put together, which stand newest
+-- first; 0 where there is none
+abbrev pub sendings_of_last : List CombinedCopy → ℕ
+sendings_of_last [] = 0
+sendings_of_last (one ∷ before) = one.sendings
+
 -- what copies left that were judged so far: the entries that were made, oldest first; and all
 -- families that were begun and the combined copies that were printed, newest first
 pub record Judged : Type 0 where

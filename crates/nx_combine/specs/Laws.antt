@@ -10,7 +10,7 @@ use Rattle.nx_envelope.specs.declared.found.How.TheVariants.{Full}
 use Rattle.nx_envelope.specs.declared.identity.Identity.{Identity}
 use Rattle.nx_memory.specs.Memory.{most_entries}
 use Rattle.nx_memory.specs.declared.memories.entry.MemoryEntry.{MemoryEntry}
-use Rattle.nx_copies.specs.copies.Printing.{is_remembered}
+use Rattle.nx_copies.specs.copies.Printing.{is_better, is_remembered}
 use Rattle.nx_combine.specs.CombinedPrinting.{are_of_one_family}
 use Rattle.nx_combine.specs.CopyPositions.{HeardCopy}
 use Rattle.nx_combine.specs.Families.{CombinedCopy, Family, families_after_holding, has_family}
@@ -63,6 +63,14 @@ AreAllTakenAlike first second =
 abbrev pub LosesNoIdle : List Reception → List Reception → Type 0
 LosesNoIdle first second =
     (index : ℕ) → slice_get first index ≡ Some idle → slice_get second index ≡ Some lost → ⊥
+
+-- its own copy is better than what its positions give
+abbrev pub is_own_better : CombinedCopy → Bool
+is_own_better one = is_better one.own.copy (given_by one.positions one.own.copy)
+
+-- how many of these copies are of its family
+abbrev pub copies_of_family : CombinedCopy → List CombinedCopy → ℕ
+copies_of_family one copies = length (filter (are_of_one_family one) copies)
 
 -- the positions give a full text with no error
 pub record IsWhole (positions : List Reception) : Type 0 where

@@ -32,6 +32,8 @@ pub struct PrintedCopy {
     /// Whether its text is what its family gives, which the combiner has; else it is the copy's
     /// own.
     pub is_given: bool,
+    /// From how many sendings it is put together.
+    pub sendings: u64,
 }
 
 /// Judges the copies of a channel, each together with those of its family that were heard before.
@@ -96,6 +98,13 @@ impl<S: HoldsFamilies> Combiner<S> {
             → all_copies (if_printed_combined entries before
             (combined_copy_holding (S.most places.old) families heard))
             ≡ copies_printed result self.new.finder.text text.now selected }
+        ensures sendings { (families : List OneFamily) (before : List CombinedCopy)
+            (heard : HeardCopy)
+            → IsGivenAs heard (headed_copy head.now text.now selected) positions.now
+            → StandsHolding (S.most places.old)
+            (combiner_of (S.held self.old.store places.old) self.old.finder) families before
+            → IfSome result (λ printed. printed.sendings
+            ≡ (combined_copy_holding (S.most places.old) families heard).sendings) }
         ensures errors { IfSome result (λ printed. printed.head.errors
             ≡ errors_of (text_printed printed self.new.finder.text text.now)) }
         ensures head { IfSome result (λ printed. (printed.head.identity ≡ head.now.identity)
@@ -164,6 +173,12 @@ impl<S: HoldsFamilies> Combiner<S> {
             → ComesTo (combined_copy_holding (S.most places.old) families heard)
             (families_after_holding (S.most places.old) families heard) result.family
             (meant result.given self.new.finder.text (headed_copy head.now text.now selected)) }
+        ensures sendings { (families : List OneFamily) (before : List CombinedCopy)
+            (heard : HeardCopy)
+            → IsGivenAs heard (headed_copy head.now text.now selected) positions.now
+            → StandsHolding (S.most places.old)
+            (combiner_of (S.held self.old.store places.old) self.old.finder) families before
+            → result.sendings ≡ (combined_copy_holding (S.most places.old) families heard).sendings }
         ensures errors { IfSome result.given
             (λ given. given.errors ≡ errors_of self.new.finder.text) }
         ensures head { IfSome result.given (λ given. (given.identity ≡ head.now.identity)
@@ -269,15 +284,19 @@ fn printed_as(head: &EntryHead, combined: &Combined) -> PrintedCopy
         → result.head.errors ≡ errors_of (text_printed result read own) }
     ensures identity { result.head.identity ≡ head.now.identity }
     ensures moment { result.head.moment ≡ head.now.moment }
+    ensures sendings { result.sendings ≡ combined.now.sendings }
 {
+    let sendings = combined.sendings;
     match combined.given {
         Some(given) => PrintedCopy {
             head: given,
             is_given: true,
+            sendings,
         },
         None => PrintedCopy {
             head: *head,
             is_given: false,
+            sendings,
         },
     }
 }

@@ -1,6 +1,6 @@
 //! What a copy comes to together with the others of its family.
 
-ghost use Rattle.std.specs.Prelude.{◌≡◌, ◌≤◌, ◌<◌, ℕ, List, Bool, IfSome, IsTrue, length, take};
+ghost use Rattle.std.specs.Prelude.{◌≡◌, ◌≤◌, ◌<◌, ℕ, List, Bool, IfSome, IsTrue, is_some, length, not, take};
 ghost use Rattle.nx_code.specs.Reading.{Reception};
 ghost use Rattle.nx_envelope.specs.Copies.{errors_of};
 ghost use Rattle.nx_envelope.specs.declared.identity.Identity.{Identity as TheIdentity};
@@ -31,6 +31,8 @@ pub struct Combined {
     /// The head of what its family gives in place of the copy, whose text the finder has. `None`
     /// where it is the copy itself.
     pub given: Option<EntryHead>,
+    /// From how many sendings it is put together: from all of its family, where that gives it.
+    pub sendings: u64,
 }
 
 /// Whether a copy has a family: it is selected, not numbered 00, and has at most 8,192 positions.
@@ -66,6 +68,11 @@ fn given_in_place(head: &EntryHead, finder: &Finder) -> Option<EntryHead>
         → head.now.errors ≡ errors_of text
         → spec.combined positions (headed_copy head.now text selected)
         ≡ meant result finder.now.text (headed_copy head.now text selected) }
+    ensures given { (positions : List Reception) (identity : TheIdentity) (text : List ℕ)
+        (selected : Bool) → HasRead finder.now identity positions
+        → head.now.errors ≡ errors_of text
+        → is_some result ≡ not (printing.is_better (headed_copy head.now text selected)
+        (spec.given_by positions (headed_copy head.now text selected))) }
     ensures errors { (positions : List Reception) (identity : TheIdentity)
         → HasRead finder.now identity positions
         → IfSome result (λ given. given.errors ≡ errors_of finder.now.text) }
@@ -194,6 +201,7 @@ impl<S: HoldsFamilies> Combiner<S> {
                 family: None,
                 begins: false,
                 given: None,
+                sendings: 1,
             };
         }
         let Some(index) = index_joined(&self.store, places, head, positions, &mut self.finder)
@@ -203,13 +211,33 @@ impl<S: HoldsFamilies> Combiner<S> {
                 family: Some(0),
                 begins: true,
                 given: None,
+                sendings: 1,
             };
         };
         self.join_at(places, index, head, positions);
+        let given = given_in_place(head, &self.finder);
+        let sendings = self.sendings_of(places, index, given.is_some());
         Combined {
             family: Some(index),
             begins: false,
-            given: given_in_place(head, &self.finder),
+            given,
+            sendings,
+        }
+    }
+
+    /// From how many sendings a copy is put together that joined the family of this index: from all
+    /// of the family, where that gives it, and else from itself alone.
+    fn sendings_of(&self, places: &[S::Place], index: usize, is_given: bool) -> u64
+        requires fits { S.fits self.now.store places.now }
+        requires there { index < length (S.held self.now.store places.now).families }
+        ensures { (family : Family)
+            → slice_get (S.held self.now.store places.now).families index ≡ Some family
+            → result ≡ if is_given then family.sendings else 1 }
+    {
+        if is_given {
+            self.store.sendings(places, index)
+        } else {
+            1
         }
     }
 

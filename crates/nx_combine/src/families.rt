@@ -20,12 +20,14 @@ use std::mem::size_of;
 /// Behind how many later families one is joined no more (this profile).
 pub const MAX_FAMILIES: usize = CAPACITY;
 
-/// A family: the identity of its copies, the moment of the first one, and their positions, joined.
+/// A family: the identity of its copies, the moment of the first one, their positions, joined, and
+/// how many they are.
 #[derive(Drop)]
 pub struct Family {
     identity: Identity,
     moment: u64,
     positions: ArrayVec<Position, MAX_POSITIONS>,
+    sendings: u64,
 }
 
 impl Model for Family {
@@ -37,12 +39,14 @@ impl Model for Family {
       identity = family.identity;
       moment = family.moment;
       positions = family.positions.items;
+      sendings = family.sendings;
     } };
 
     ghost inverse = { λ family. record {
       identity = family.identity;
       moment = family.moment;
       positions = record { items = family.positions };
+      sendings = family.sendings;
     } };
 }
 
@@ -53,14 +57,16 @@ impl Family {
         ensures identity { result.identity ≡ head.now.identity }
         ensures moment { result.moment ≡ head.now.moment }
         ensures positions { result.positions ≡ positions.now }
+        ensures sendings { result.sendings ≡ 1 }
     {
-        prove!(size_of::<Family>() == 8216);
+        prove!(size_of::<Family>() == 8224);
         let mut copied = ArrayVec::new();
         copied.try_extend_from_slice(positions).unwrap();
         Family {
             identity: head.identity,
             moment: head.moment,
             positions: copied,
+            sendings: 1,
         }
     }
 
@@ -85,13 +91,21 @@ impl Family {
         self.positions.as_slice()
     }
 
-    /// Joins the positions of a copy to its own.
+    /// How many its copies are.
+    fn sendings(&self) -> u64
+        ensures { result ≡ self.now.sendings }
+    {
+        self.sendings
+    }
+
+    /// Joins the positions of a copy to its own, and counts the copy.
     fn take(&mut self, positions: &[Position])
         requires { length positions.now ≤ MAX_POSITIONS }
         ensures { (heard : HeardCopy) → heard.positions ≡ positions.now
             → self.new ≡ spec.joined_by heard self.old }
     {
         join(&mut self.positions, positions);
+        self.sendings = self.sendings.saturating_add(1);
     }
 }
 
@@ -173,6 +187,13 @@ impl HoldsFamilies for Families {
     fn positions<'a>(&'a self, _places: &'a [()], index: usize) -> &'a [Position] {
         match self.families.get(index) {
             Some(family) => family.positions(),
+            None => unreachable!(),
+        }
+    }
+
+    fn sendings(&self, _places: &[()], index: usize) -> u64 {
+        match self.families.get(index) {
+            Some(family) => family.sendings(),
             None => unreachable!(),
         }
     }

@@ -21,6 +21,7 @@ use std::mem::size_of;
 #[derive(Drop)]
 pub struct FamilyPlace {
     moment: u64,
+    sendings: u64,
     count: usize,
     printed: PlainHead,
     identity: PlainIdentity,
@@ -40,6 +41,7 @@ impl Model for FamilyPlace {
         identity = place.identity;
         moment = place.moment;
         positions = take place.count place.positions;
+        sendings = place.sendings;
       };
       behind = drop place.count place.positions;
       printed = place.printed;
@@ -50,6 +52,7 @@ impl Model for FamilyPlace {
 
     ghost inverse = { λ lent. record {
       moment = lent.family.moment;
+      sendings = lent.family.sendings;
       count = length lent.family.positions;
       printed = lent.printed;
       identity = lent.family.identity;
@@ -58,6 +61,7 @@ impl Model for FamilyPlace {
 
     ghost inverse_ok = { λ place within i. record {
       moment = place.moment;
+      sendings = place.sendings;
       count = length-take-le place.count place.positions within.1 i;
       printed = place.printed;
       identity = place.identity;
@@ -72,13 +76,15 @@ impl FamilyPlace {
         ensures b2 { result.family.identity.b2.byte ≡ capital_a }
         ensures number { result.family.identity.number ≡ 0 }
         ensures moment { result.family.moment ≡ 0 }
+        ensures sendings { result.family.sendings ≡ 0 }
         ensures positions { result.family.positions ≡ [] }
         ensures behind { result.behind ≡ replicate spec.most_positions lost }
         ensures printed { result.printed ≡ None }
     {
-        prove!(size_of::<FamilyPlace>() == 8232);
+        prove!(size_of::<FamilyPlace>() == 8240);
         FamilyPlace {
             moment: 0,
+            sendings: 0,
             count: 0,
             printed: PlainHead::none(),
             identity: PlainIdentity::zeros(),
@@ -107,6 +113,13 @@ impl FamilyPlace {
         &self.positions[..self.count]
     }
 
+    /// How many they are.
+    pub(crate) fn sendings(&self) -> u64
+        ensures { result ≡ self.now.family.sendings }
+    {
+        self.sendings
+    }
+
     /// The head of the last combined copy that was printed.
     pub(crate) fn printed(&self) -> Option<EntryHead>
         ensures { result ≡ self.now.printed }
@@ -120,18 +133,20 @@ impl FamilyPlace {
         ensures identity { self.new.family.identity ≡ head.now.identity }
         ensures moment { self.new.family.moment ≡ head.now.moment }
         ensures positions { self.new.family.positions ≡ positions.now }
+        ensures sendings { self.new.family.sendings ≡ 1 }
         ensures printed { self.new.printed ≡ None }
         ensures behind { self.new.behind
             ≡ drop (length positions.now) (self.old.family.positions ++ self.old.behind) }
     {
         self.identity = PlainIdentity::of(head.identity);
         self.moment = head.moment;
+        self.sendings = 1;
         self.printed = PlainHead::none();
         self.count = positions.len();
         self.positions[..positions.len()].copy_from_slice(positions);
     }
 
-    /// Joins the positions of a copy to those of the family.
+    /// Joins the positions of a copy to those of the family, and counts the copy.
     pub(crate) fn join(&mut self, positions: &[Position])
         requires { length positions.now ≤ MAX_POSITIONS }
         ensures joined { (heard : HeardCopy) → heard.positions ≡ positions.now
@@ -140,6 +155,7 @@ impl FamilyPlace {
         ensures behind { self.new.behind
             ≡ drop (length positions.now - length self.old.family.positions) self.old.behind }
     {
+        self.sendings = self.sendings.saturating_add(1);
         join_in(&mut self.positions, self.count, positions);
         self.count = self.count.max(positions.len());
     }

@@ -88,6 +88,10 @@ impl HoldsFamilies for FamilyRing {
         places[self.place_of(index, places.len())].positions()
     }
 
+    fn sendings(&self, places: &[FamilyPlace], index: usize) -> u64 {
+        places[self.place_of(index, places.len())].sendings()
+    }
+
     fn join(&mut self, places: &mut [FamilyPlace], index: usize, positions: &[Position]) {
         let at = self.place_of(index, places.len());
         places[at].join(positions);

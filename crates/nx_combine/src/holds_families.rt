@@ -50,6 +50,14 @@ pub trait HoldsFamilies: Drop {
             → slice_get (held self.now places.now).families index ≡ Some family
             → result.now ≡ family.positions };
 
+    /// How many copies the family of this index has, at most the greatest number of 64 bits.
+    fn sendings(&self, places: &[Self::Place], index: usize) -> u64
+        requires fits { fits self.now places.now }
+        requires there { index < length (held self.now places.now).families }
+        ensures { (family : spec.Family)
+            → slice_get (held self.now places.now).families index ≡ Some family
+            → result ≡ family.sendings };
+
     /// Joins the positions of a copy to those of the family of this index.
     fn join(&mut self, places: &mut [Self::Place], index: usize, positions: &[Position])
         requires fits { fits self.old places.old }

@@ -18,6 +18,8 @@ ghost use Rattle.nx_combine.specs.CombinedPrinting.{printed_of_placed_holding};
 ghost use Rattle.nx_combine.specs.Judging.{Judged, all_printed_holding, judged_behind_holding};
 ghost use Rattle.nx_combine.specs.Laws.{AreHeardTogetherHolding, IsWholeOnce, text_sent};
 ghost use Rattle.nx_combine.specs.Laws.{IsLastWhole, IsOfPrinted, IsWholeCopy};
+ghost use Rattle.nx_combine.specs.Laws.{copies_of_family, is_own_better};
+ghost use Rattle.nx_fec.specs.Transfers.{count_of};
 ghost use Rattle.nx_combine.specs.Joining.{is_of_one_text, joined};
 ghost use Rattle.nx_combine.specs.PositionEnds.{ending_by, has_ended, up_to_end};
 ghost use Rattle.nx_combine.specs.Laws.{CameThrough, IsHeardOf, RunOnAlike, joined_all};
@@ -93,6 +95,22 @@ pub fn sendings_make_one_family()
         (joined_all ((first.positions ∷ positions_heard identity mid) ++ one.positions ∷ []))
         (combined_copy_holding held
         (families_behind_holding held (families_after_holding held families first) mid) one) }
+{}
+
+/// A combined copy that its family gives is put together from all copies of the family up to it,
+/// and so many sendings it has. One that stands for itself has one: the copy itself is better than
+/// what its family gives, or it has no family.
+pub fn sendings_are_copies_of_a_family()
+    ensures given { (held : ℕ) (copies : List HeardCopy) (before later : List CombinedCopy)
+        (one : CombinedCopy) → combined_copies_holding held [] copies ≡ before ++ one ∷ later
+        → (number : ℕ) → one.family ≡ Some number → is_own_better one ≡ false
+        → one.sendings ≡ count_of (copies_of_family one before + 1) }
+    ensures own { (held : ℕ) (families : List Family) (heard : HeardCopy)
+        → is_own_better (combined_copy_holding held families heard) ≡ true
+        → (combined_copy_holding held families heard).sendings ≡ 1 }
+    ensures alone { (held : ℕ) (families : List Family) (heard : HeardCopy)
+        → (combined_copy_holding held families heard).family ≡ None
+        → (combined_copy_holding held families heard).sendings ≡ 1 }
 {}
 
 /// A whole combined copy, full and without an error, is printed, or the last one of its family that

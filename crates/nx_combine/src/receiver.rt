@@ -52,6 +52,7 @@ impl<M: Renewing> Model for CombinedReceiver<M> {
         store = record { families = v.combiner.families; printed = v.combiner.printed };
         finder = v.combiner.finder;
         is_given = v.is_given;
+        sendings = v.sendings;
         memory = v.memory;
       };
     } };

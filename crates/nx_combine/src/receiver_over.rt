@@ -2,25 +2,25 @@
 //! hears as the plain receiver does, and notes the positions of each copy; only what a copy comes
 //! to is another matter.
 
-ghost use Rattle.std.specs.Prelude.{◌≡◌, ◌↔◌, ◌+◌, ◌<◌, ◌≤◌, List, [], ◌∷◌, ◌++◌, length, take, drop, IfErr, IfSome, IsErr, IsTrue, None, OnErr, OnOk, Some};
+ghost use Rattle.std.specs.Prelude.{◌≡◌, ◌↔◌, ◌+◌, ◌<◌, ◌≤◌, List, [], ◌∷◌, ◌++◌, length, take, drop, IfErr, IfSome, IsErr, IsTrue, None, OnErr, OnOk, Some, true};
 ghost use Rattle.nx_envelope.specs.Moment.{last_moment};
 ghost use Rattle.nx_code.specs.Lists.{last_of};
 ghost use Rattle.nx_memory.specs.Content.{last_known};
 ghost use Rattle.nx_memory.specs.Memory.{most_entries, newest_moment};
 ghost use Rattle.nx_copies.specs.Events as events;
 ghost use Rattle.nx_copies.specs.Events.{Event, Start, at_moment};
-ghost use Rattle.nx_copies.specs.copies.FoundCopies.{TaggedCopy};
+ghost use Rattle.nx_copies.specs.copies.FoundCopies.{TaggedCopy, headed_copy};
 ghost use Rattle.nx_copies.specs.hearing.CopyHearer.{ready_copies};
 ghost use Rattle.nx_receiver.specs.ChannelReceiver.{HandsOutNoneBeforeBy, HearsUpToBy, TakesEventBy};
 ghost use Rattle.nx_receiver.specs.Commands.{refuses_vital, said};
 ghost use Rattle.nx_receiver.specs.declared.command.Command.TheVariants.{RefuseSubject};
 ghost use Rattle.nx_receiver.specs.Moments.{Refuses};
 ghost use Rattle.nx_receiver.specs.Receiver.{HeadsText, headed_list};
-ghost use Rattle.nx_combine.specs.CombinedPrinting.{PrintsHoldingToEnd};
+ghost use Rattle.nx_combine.specs.CombinedPrinting.{HasPrintedLastHolding, PrintsHoldingToEnd, PrintsLastHoldingToEnd};
 ghost use Rattle.nx_combine.specs.CombinedReceiver.{AwaitsAfterAllHolding, LeavesHolding, StandsAfterAllHolding, combined_kind_holding, hearer_in, its_entries, receiver_in, text_over};
 ghost use Rattle.nx_combine.specs.private.CombinedReceiver.{JudgesNext};
 ghost use Rattle.nx_combine.specs.CopyPositions.{HeardCopy};
-ghost use Rattle.nx_combine.specs.Judging.{Judged, StandsHolding, combiner_of};
+ghost use Rattle.nx_combine.specs.Judging.{Judged, StandsHolding, combiner_of, sendings_of_last};
 ghost use Rattle.nx_combine.specs.Notes.{noted};
 
 use crate::combiner::Combiner;
@@ -40,13 +40,15 @@ use std::marker::Model;
 /// a call, that is the same room at each call.
 ///
 /// It holds the synchroniser, the taker of copies and of their positions, what judges them, whether
-/// the text of the entry that was printed last is what a family gave, and a memory of identities.
+/// the text of the entry that was printed last is what a family gave, from how many sendings that
+/// entry is put together, and a memory of identities.
 #[derive(Drop)]
 pub struct ReceiverOver<S: HoldsFamilies, M: Renewing> {
     synchroniser: Synchroniser,
     taker: CombinedTaker,
     combiner: Combiner<S>,
     is_given: bool,
+    sendings: u64,
     memory: M,
 }
 
@@ -70,6 +72,7 @@ impl<S: HoldsFamilies, M: Renewing> Model for ReceiverOver<S, M> {
       store = r.combiner.store;
       finder = r.combiner.finder;
       is_given = r.is_given;
+      sendings = r.sendings;
       memory = r.memory;
     } };
 
@@ -81,6 +84,7 @@ impl<S: HoldsFamilies, M: Renewing> Model for ReceiverOver<S, M> {
       taker = v.taker;
       combiner = record { store = v.store; finder = v.finder };
       is_given = v.is_given;
+      sendings = v.sendings;
       memory = v.memory;
     } };
 }
@@ -110,6 +114,7 @@ impl<S: HoldsFamilies, M: Renewing> ReceiverOver<S, M> {
                 finder: Finder::new(),
             },
             is_given: false,
+            sendings: 0,
             memory,
         }
     }
@@ -169,6 +174,19 @@ impl<S: HoldsFamilies, M: Renewing> ReceiverOver<S, M> {
         }
     }
 
+    /// From how many sendings the entry is put together whose head was answered last: 1 where it is
+    /// a copy as it was heard, and 0 where none was answered yet.
+    pub fn sendings(&self) -> u64
+        ensures sendings { result ≡ self.now.sendings }
+        ensures counted { (places : List S.Place) (start : Start) (history : List Event)
+            (log : List TaggedCopy) (copy : TaggedCopy)
+            → StandsAfterAllHolding (S.most places) M.content start
+            (receiver_in S.held self.now places) history (log ++ copy ∷ [])
+            → HasPrintedLastHolding (S.most places) start history copy result }
+    {
+        self.sendings
+    }
+
     /// Hears elements up to and with the first one with which something is over, all of them where
     /// nothing is. Says how many, and what is over. `finish` is due then, before anything else is
     /// heard.
@@ -208,6 +226,11 @@ impl<S: HoldsFamilies, M: Renewing> ReceiverOver<S, M> {
             → StandsAfterAllHolding (S.most places.old) M.content start
             (receiver_in S.held self.new places.new) history
             (log ++ headed_list result (text_over self.new)) }
+        ensures counted { IfSome result (λ head. (start : Start) (history : List Event)
+            (log : List TaggedCopy) → AwaitsAfterAllHolding (S.most places.old) M.content start
+            (receiver_in S.held self.old places.old) history log (Some over)
+            → HasPrintedLastHolding (S.most places.old) start history
+            (headed_copy head (text_over self.new) true) self.new.sendings) }
         ensures head { IfSome result (λ head. HeadsText head (text_over self.new)) }
     {
         match over {
@@ -236,6 +259,11 @@ impl<S: HoldsFamilies, M: Renewing> ReceiverOver<S, M> {
             (receiver_in S.held self.old places.old) history log
             → PrintsHoldingToEnd (S.most places.old) start history
             (log ++ headed_list result (text_over self.new)) }
+        ensures counted { IfSome result (λ head. (start : Start) (history : List Event)
+            (log : List TaggedCopy) → StandsAfterAllHolding (S.most places.old) M.content start
+            (receiver_in S.held self.old places.old) history log
+            → PrintsLastHoldingToEnd (S.most places.old) start history
+            (headed_copy head (text_over self.new) true) self.new.sendings) }
         ensures head { IfSome result (λ head. HeadsText head (text_over self.new)) }
     {
         self.taker.close();
@@ -251,7 +279,8 @@ impl<S: HoldsFamilies, M: Renewing> ReceiverOver<S, M> {
         ensures none { ready_copies (hearer_in (receiver_in S.held self.old places.old)) ≡ []
             → (result ≡ None) × (self.new.memory ≡ self.old.memory)
             × (combiner_of (S.held self.new.store places.new) self.new.finder
-            ≡ combiner_of (S.held self.old.store places.old) self.old.finder) }
+            ≡ combiner_of (S.held self.old.store places.old) self.old.finder)
+            × (self.new.sendings ≡ self.old.sendings) }
         ensures judged { (so_far : Judged) (heard : HeardCopy)
             → ready_copies (hearer_in (receiver_in S.held self.old places.old)) ≡ heard.copy ∷ []
             → self.old.taker.notes.positions ≡ noted heard.positions
@@ -259,9 +288,10 @@ impl<S: HoldsFamilies, M: Renewing> ReceiverOver<S, M> {
             → StandsHolding (S.most places.old)
             (combiner_of (S.held self.old.store places.old) self.old.finder) so_far.families
             so_far.printed
+            → self.old.sendings ≡ sendings_of_last so_far.printed
             → JudgesNext (S.most places.old) M.content self.new.memory
-            (combiner_of (S.held self.new.store places.new) self.new.finder) so_far heard
-            (headed_list result (text_over self.new)) }
+            (combiner_of (S.held self.new.store places.new) self.new.finder) self.new.sendings
+            so_far heard (headed_list result (text_over self.new)) }
         ensures taker { self.new.taker ≡ self.old.taker }
         ensures synchroniser { self.new.synchroniser ≡ self.old.synchroniser }
         ensures head { IfSome result (λ head. HeadsText head (text_over self.new)) }
@@ -288,6 +318,7 @@ impl<S: HoldsFamilies, M: Renewing> ReceiverOver<S, M> {
             &mut self.memory,
         )?;
         self.is_given = printed.is_given;
+        self.sendings = printed.sendings;
         Some(printed.head)
     }
 }

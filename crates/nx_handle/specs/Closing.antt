@@ -23,26 +23,26 @@ closing_status false capacity =
 -- come, the ends before this call print this copy, and then that.
 pub record HandsOut {P : Type 0} (kind : PlaceKind P) (old new : List P) (text : List ℕ) : Type 0
   where
-  pub copy : MarkedCopy
-  pub entry : IsEntry copy text
-  pub ended : all_hear kind new ≡ false
-  pub is_open : all_closed kind new ≡ false
-  pub behind : (left : List MarkedCopy) → EndsWith kind new left
-      → EndsWith kind old (copy ∷ left)
+    pub copy : MarkedCopy
+    pub entry : IsEntry copy text
+    pub ended : all_hear kind new ≡ false
+    pub is_open : all_closed kind new ≡ false
+    pub behind : (left : List MarkedCopy) → EndsWith kind new left
+        → EndsWith kind old (copy ∷ left)
 
 -- The ends that were still to come print nothing: nothing is handed out, and the receiver is
 -- closed.
 pub record HasEnded {P : Type 0} (kind : PlaceKind P) (old new : List P) (text : List ℕ) : Type 0
   where
-  pub none : EndsWith kind old []
-  pub nothing : text ≡ []
-  pub closed : all_closed kind new ≡ true
+    pub none : EndsWith kind old []
+    pub nothing : text ≡ []
+    pub closed : all_closed kind new ≡ true
 
 -- a call that closes an open receiver, and the bytes that it hands out
 pub record Closes {P : Type 0} (kind : PlaceKind P) (old new : List P) (text : List ℕ) : Type 0
   where
-  pub was_open : all_closed kind old ≡ false
-  pub goes : HandsOut kind old new text ⊎ HasEnded kind old new text
+    pub was_open : all_closed kind old ≡ false
+    pub goes : HandsOut kind old new text ⊎ HasEnded kind old new text
 
 -- Closing: the status has its cause. Where all is done, one entry is copied into the room, which
 -- has room for it, or the receiver is closed. Else it stays as it was, and nothing is copied. Its

@@ -1,13 +1,12 @@
 -- A place in which several sendings of a message are taken together, with room for their families
 -- (this profile).
-use Rattle.std.specs.Prelude.{◌≡◌, ℕ, ◌<◌, Bool, true, false, List, length, []}
+use Rattle.std.specs.Prelude.{◌≡◌, ℕ, ◌<◌, Bool, true, false, List, [], ◌∷◌, ◌++◌, length}
 use Rattle.nx_copies.specs.Events.{Event, Start}
 use Rattle.nx_copies.specs.copies.FoundCopies.{TaggedCopy}
-use Rattle.nx_combine.specs.CombinedPrinting.{combined_holding}
+use Rattle.nx_combine.specs.CombinedPrinting.{HasPrintedLastHolding, combined_holding}
 use Rattle.nx_combine.specs.CombinedReceiver.{LeavesHolding, StandsAfterAllHolding, receiver_in}
 use Rattle.nx_combine.specs.CombinedReceiver.{text_over}
 use Rattle.nx_combine.specs.FamilyPlaces.{BelongsTo, LentFamily, held_in}
-use Rattle.nx_handle.specs.FamilyRooms.{OneCombining}
 use Rattle.nx_handle.specs.PlaceKinds.{PlaceKind}
 use Rattle.nx_handle.specs.PlainPlaces.{content, no_start}
 use Rattle.nx_handle.specs.declared.combining_place.CombiningState.{CombiningState}
@@ -62,19 +61,26 @@ FitsRoom lent Closed = 0 < length lent
 FitsRoom lent (Hears receiver) = (0 < length lent) × BelongsTo receiver.store lent
 FitsRoom lent Ended = 0 < length lent
 
--- such places, where this tells what lies in a room
-abbrev pub combining_place : {F : Type 0} → (F → List LentFamily)
+-- the last copy of this log is put together from so many sendings
+abbrev pub CombinesSendings : ℕ → Start → List Event → List TaggedCopy → ℕ → Type 0
+CombinesSendings held start events log n =
+    (earlier : List TaggedCopy) (copy : TaggedCopy) → log ≡ earlier ++ copy ∷ []
+    → HasPrintedLastHolding held start events copy n
+
+-- such places, where these tell what lies in a room, and which room it is
+abbrev pub combining_place : {F : Type 0} → (F → List LentFamily) → (F → F)
     → PlaceKind (CombiningPlaceView F)
-combining_place places = record {
+combining_place places vacant = record {
   is_hearing = λ place. state_hears place.state;
   is_closed = λ place. state_closed place.state;
   shut = λ place. combining_closed place.families;
   families = λ place. length (places place.families);
+  vacant = λ place. combining_closed (vacant place.families);
   printing = combined_holding;
   stands = λ held start place events log.
       StandsLent held start (places place.families) place.state events log;
   start_of = λ place. combining_start place.state;
   text_of = λ place. combining_text place.state;
   leaves = LeavesHolding;
-  sendings = λ held start events log n. n ≡ n;
+  sendings = CombinesSendings;
 }

@@ -28,6 +28,7 @@ HaveRoom {P} kind held places =
     (channel : Channel) (place : P) → place_on places channel ≡ Some place
     → kind.families place ≡ held
 
--- each place has room for as many families as before
-abbrev pub KeepsRoom : {P : Type 0} → PlaceKind P → List P → List P → Type 0
-KeepsRoom kind old new = map kind.families new ≡ map kind.families old
+-- each place has the same room as before, for as many families
+pub record KeepsRoom {P : Type 0} (kind : PlaceKind P) (old new : List P) : Type 0 where
+  pub families : map kind.families new ≡ map kind.families old
+  pub vacant : map kind.vacant new ≡ map kind.vacant old

@@ -58,6 +58,7 @@ plain_place = record {
   is_closed = is_closed;
   shut = λ place. Closed;
   families = λ place. 0;
+  vacant = λ place. Closed;
   printing = λ held. plain;
   stands = StandsPlain;
   start_of = plain_start;

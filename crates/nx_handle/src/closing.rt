@@ -6,6 +6,7 @@ ghost use Rattle.nx_copies.specs.copies.Shares.{MarkedCopy, marked};
 ghost use Rattle.nx_handle.specs.Closing.{AnswersClosing};
 ghost use Rattle.nx_handle.specs.Life.{EndPrints, EndsWith};
 ghost use Rattle.nx_handle.specs.private.Hearing.{CopiesEntryOut};
+ghost use Rattle.nx_handle.specs.PlaceKinds.{SameRoom};
 ghost use Rattle.nx_handle.specs.Places.{KeepsRoom, all_closed, all_hear};
 ghost use Rattle.nx_handle.specs.CallerRoom.{room};
 
@@ -78,7 +79,7 @@ fn end_at<P: KeptPlace>(
         × EndPrints P.kind place.old (copy ∷ []) }
     ensures silent { result ≡ false → EndPrints P.kind place.old [] × (log.new ≡ log.old) }
     ensures ended { (P.kind.is_hearing place.new ≡ false) × (P.kind.is_closed place.new ≡ false) }
-    ensures room { P.kind.families place.new ≡ P.kind.families place.old }
+    ensures room { SameRoom P.kind place.old place.new }
 {
     if !place.is_hearing() {
         place.leave();

@@ -19,7 +19,8 @@ use nx_receiver::{Command, MomentFault};
 use std::marker::Model;
 
 /// The place of a channel whose receiver takes several sendings of a message together, and the room
-/// for its families, which stays when the receiver is closed.
+/// for its families, which stays when the receiver is closed. It is `Drop` where its room is.
+#[derive(Drop)]
 pub struct CombiningPlace<F: FamilyRoom> {
     state: CombiningState,
     families: F,
@@ -77,7 +78,7 @@ impl<F: FamilyRoom> KeptPlace for CombiningPlace<F> {
     ghost use Rattle.nx_handle.specs.CombiningPlaces.{combining_place};
     ghost use Rattle.nx_handle.specs.private.CombiningLaws.{combining-laws};
 
-    ghost kind = { combining_place F.places };
+    ghost kind = { combining_place F.places F.vacant };
 
     fn is_hearing(&self) -> bool {
         matches!(self.state, CombiningState::Hears(_))
@@ -152,10 +153,13 @@ impl<F: FamilyRoom> KeptPlace for CombiningPlace<F> {
     }
 
     fn sendings(&self) -> u64 {
-        1
+        let CombiningState::Hears(receiver) = &self.state else {
+            return 0;
+        };
+        receiver.sendings()
     }
 
-    ghost laws = { combining-laws F.places };
+    ghost laws = { combining-laws F.places F.vacant };
 }
 
 /// A memory with the entries of this one, in which what is known can be entered once more.
@@ -184,6 +188,7 @@ fn next_printed_in<F: FamilyRoom>(
     ensures within { from + result.0 ≤ length packed.now }
     ensures fits { BelongsTo receiver.new.store (F.places families.new) }
     ensures room { length (F.places families.new) ≡ length (F.places families.old) }
+    ensures stays { F.vacant families.new ≡ F.vacant families.old }
     ensures hears { HearsInRoom (F.places families.old) (F.places families.new) receiver.old
         receiver.new (drop from packed.now) result.0
         (headed_list result.1 (text_over receiver.new)) }

@@ -1,6 +1,6 @@
 //! Room for the families of a channel, which its owner gives.
 
-ghost use Rattle.std.specs.Prelude.{List};
+ghost use Rattle.std.specs.Prelude.{◌≡◌, List};
 ghost use Rattle.nx_combine.specs.FamilyPlaces.{BelongsTo, LentFamily};
 ghost use Rattle.nx_handle.specs.FamilyRooms.{EndsIn, FinishesIn};
 
@@ -14,6 +14,9 @@ pub trait FamilyRoom {
     /// What lies in the places.
     ghost places: { Self → List LentFamily };
 
+    /// Which room it is: the room with nothing in it.
+    ghost vacant: { Self → Self };
+
     /// Finishes what is over, and says the head of the entry that it brings, if it brings one.
     fn finish(
         &mut self,
@@ -21,11 +24,13 @@ pub trait FamilyRoom {
         over: Over,
     ) -> Option<EntryHead>
         requires { BelongsTo receiver.old.store (places self.old) }
-        ensures { FinishesIn (places self.old) (places self.new) receiver.old receiver.new over
-            result };
+        ensures finishes { FinishesIn (places self.old) (places self.new) receiver.old receiver.new
+            over result }
+        ensures stays { vacant self.new ≡ vacant self.old };
 
     /// Ends the elements, and says the head of the entry that their end prints, if it prints one.
     fn end(&mut self, receiver: &mut LentReceiver<RenewingRecall>) -> Option<EntryHead>
         requires { BelongsTo receiver.old.store (places self.old) }
-        ensures { EndsIn (places self.old) (places self.new) receiver.old receiver.new result };
+        ensures ends { EndsIn (places self.old) (places self.new) receiver.old receiver.new result }
+        ensures stays { vacant self.new ≡ vacant self.old };
 }

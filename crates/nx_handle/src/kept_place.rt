@@ -10,7 +10,7 @@ ghost use Rattle.nx_receiver.specs.ChannelReceiver.{HandsOutNoneBeforeBy};
 ghost use Rattle.nx_receiver.specs.Commands.{refuses_vital, said};
 ghost use Rattle.nx_receiver.specs.Moments.{Refuses};
 ghost use Rattle.nx_receiver.specs.Receiver.{HeadsText, headed_list};
-ghost use Rattle.nx_handle.specs.PlaceKinds.{HasBegun, HasTaken, IsPlaceKind, PlaceKind, TakesEventIn, receiver_of, start_with};
+ghost use Rattle.nx_handle.specs.PlaceKinds.{HasBegun, HasTaken, IsPlaceKind, PlaceKind, SameRoom, TakesEventIn, receiver_of, start_with};
 
 use nx_copies::EntryHead;
 use nx_envelope::MAX_FOUND;
@@ -64,7 +64,7 @@ pub trait KeptPlace {
         ensures vital { IsErr result ↔ IsTrue (refuses_vital (said command)) }
         ensures unchanged { OnErr result (self.new ≡ self.old) }
         ensures hears { kind.is_hearing self.new ≡ true }
-        ensures room { kind.families self.new ≡ kind.families self.old };
+        ensures room { SameRoom kind self.old self.new };
 
     /// Hears elements, on a channel that hears, from a place on, up to and with the one that ends
     /// the first copy that is printed; says how many it heard, and the head of the entry. Its text
@@ -84,7 +84,7 @@ pub trait KeptPlace {
         ensures some { IsSome result.1 → 0 < result.0 }
         ensures head { IfSome result.1 (λ head. HeadsText head (kind.text_of self.new)) }
         ensures now { kind.is_hearing self.new ≡ true }
-        ensures room { kind.families self.new ≡ kind.families self.old };
+        ensures room { SameRoom kind self.old self.new };
 
     /// The text of the entry whose head was answered last, until more is heard.
     fn text(&self) -> &[u8]
@@ -100,13 +100,13 @@ pub trait KeptPlace {
             → (kind.printing held).to_end start history
             (log ++ headed_list result (kind.text_of self.new)) }
         ensures head { IfSome result (λ head. HeadsText head (kind.text_of self.new)) }
-        ensures room { kind.families self.new ≡ kind.families self.old };
+        ensures room { SameRoom kind self.old self.new };
 
     /// The end of the channel has come: from here on it doesn't hear, and it isn't closed.
     fn leave(&mut self)
         ensures hears { kind.is_hearing self.new ≡ false }
         ensures open { kind.is_closed self.new ≡ false }
-        ensures room { kind.families self.new ≡ kind.families self.old };
+        ensures room { SameRoom kind self.old self.new };
 
     /// What a channel leaves that hears, and is saved of it.
     fn saved(&self) -> Saved

@@ -6,7 +6,7 @@ ghost use Rattle.nx_handle.specs.PlaceKinds.{HasBegun, start_with};
 ghost use Rattle.nx_handle.specs.private.Moments.{MomentsTaken, RefusesNext};
 ghost use Rattle.nx_handle.specs.Opening.{AnswersMoment, AnswersOpening};
 ghost use Rattle.nx_handle.specs.private.Opening.{HaveBegun, ShutSame, moment_told};
-ghost use Rattle.nx_handle.specs.Places.{all_hear};
+ghost use Rattle.nx_handle.specs.Places.{KeepsRoom, all_hear};
 
 use crate::kept_place::KeptPlace;
 use crate::places::{all_hear, are_closed, close_all};
@@ -66,8 +66,10 @@ fn begin_new_at<P: KeptPlace>(place: &mut P)
 pub fn set_moment<P: KeptPlace>(places: &mut [P], moment: u64) -> u32
     requires some { 0 < length places.old }
     requires few { length places.old ≤ 3 }
-    ensures { AnswersMoment P.kind moment places.old places.new result
+    ensures answers { AnswersMoment P.kind moment places.old places.new result
         (all_hear P.kind places.old) }
+    ensures channels { length places.new ≡ length places.old }
+    ensures rooms { KeepsRoom P.kind places.old places.new }
 {
     if !all_hear(places) {
         return Status::Closed.number();

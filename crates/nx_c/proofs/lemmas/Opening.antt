@@ -1,58 +1,76 @@
--- What opening answers, where a receiver gets a block of its own, or no memory for it.
-use Rattle.std.proofs.Common.{◌≡◌, ◌≢◌, ◌⊎◌, inl, inr, ℕ, Bool, true, false, cond, zero, suc, List, [], length, is_some, arith, refl, sym, ◌∙◌, ap, subst, Option, Some, None}
+-- What opening answers, with memory and without.
+use Rattle.std.proofs.Common.{◌≡◌, ◌≢◌, ◌≤◌, inl, inr, ℕ, zero, suc, Bool, true, false, cond, arith, List, [], Option, None, Some, is_some, refl, ap}
+use Rattle.std.specs.Prelude.{nat_lt, ⊤}
 use Rattle.nx_envelope.specs.Moment.{last_moment}
-use Rattle.nx_receiver.specs.air_file_runs.State.{BeginsWith}
 use Rattle.nx_copies.specs.copies.Shares.{starts_from}
+use Rattle.nx_receiver.specs.air_file_runs.State.{BeginsWith}
+use Rattle.nx_combine.specs.Families.{most_families}
 use Rattle.nx_handle.specs.Life.{HasHeard}
-use Rattle.nx_handle.specs.Opening.{AnswersOpening, opening_status}
+use Rattle.nx_handle.specs.Opening.{opening_status}
+use Rattle.nx_handle.specs.Places.{HaveRoom}
+use Rattle.nx_handle.specs.PlainPlaces.{plain_place}
 use Rattle.nx_handle.specs.Saving.{AnswersOpeningFrom, HasNoMore, RefusesState}
 use Rattle.nx_handle.specs.Status.{number_of}
-use Rattle.nx_handle.specs.declared.places.Place.{Place}
+use Rattle.nx_handle.specs.declared.plain_place.PlainPlace.{PlainPlace}
 use Rattle.nx_handle.specs.declared.status.Status.{Status}
 use Rattle.nx_handle.specs.declared.status.Status.TheVariants.{Done, Memory, MomentRange}
-use Rattle.nx_handle.specs.CallerRoom.{Room}
-use Rattle.nx_handle.specs.Closing.{AnswersClosing}
-use Rattle.nx_handle.specs.Places.{all_closed}
-use Rattle.nx_handle.proofs.lemmas.Places.{both-closed}
 use Rattle.nx_handle.proofs.lemmas.Saving.{begins-as}
-use Rattle.nx_c.specs.Opening.{OpensFromInBlock, OpensInBlock, OpensNew, OpensNewFrom, places_in, three_closed}
+use Rattle.nx_c.specs.ByKind.{AnswersIn, OfPlaces, three_closed}
+use Rattle.nx_c.specs.Opening.{IsReady, OpensNew}
 use Rattle.nx_c.specs.declared.receiver.open_receiver.OpenReceiver.{OpenReceiver}
-use Rattle.std.specs.Prelude.{nat_lt, ⊤}
+
+by-late : (late : Bool) → 0 ≡ number_of (cond late MomentRange Done)
+    → cond late MomentRange Done ≡ Done
+by-late true e = absurd (omega (arith, e))
+by-late false e = refl
 
 pub is-none : (receiver : Option OpenReceiver) (is_open : Bool) → is_open ≡ is_some receiver
     → is_open ≡ false → receiver ≡ None
 is-none None is_open is closed = refl
 is-none (Some opened) is_open is closed = cc
 
-status-done : (late : Bool) → 0 ≡ number_of (cond late MomentRange Done)
-    → cond late MomentRange Done ≡ Done
-status-done true e = absurd (omega (arith, e))
-status-done false e = refl
+-- the status of opening a closed receiver is 0 only where it is done
+pub status-done : (moment : ℕ) → 0 ≡ number_of (opening_status true moment)
+    → opening_status true moment ≡ Done
+status-done moment e = by-late (nat_lt last_moment moment) e
 
--- all was done without a block: there is one now, or no memory for it
-pub opens : (moment : ℕ) (opened : OpenReceiver) (new : Option OpenReceiver) (answer : ℕ)
-    → AnswersOpening moment three_closed opened.places 0 → (answer ≡ 0 → new ≡ Some opened)
-    → (answer ≢ 0 → (answer ≡ number_of Memory) × (new ≡ None)) → OpensNew moment new answer
-opens moment opened new zero done held refused = record {
-  answers = inl (subst (λ o. AnswersOpening moment three_closed (places_in o) 0)
-      (sym (held refl)) done);
-  refused = λ no. absurd (no refl);
-}
-opens moment opened new (suc n) done held refused =
-    let why = refused (λ e. omega (arith, e)) in record {
-      answers = inr (why.0, status-done (nat_lt last_moment moment) done.cause);
-      refused = λ _. why.1;
+-- a receiver that was made for it was opened
+pub opens : (Answers : OfPlaces) (would_be_done : Type 0) (families : ℕ)
+    (new : Option OpenReceiver) (answer : ℕ) (ready after : OpenReceiver)
+    → families ≤ most_families → IsReady families ready → AnswersIn Answers ready after
+    → answer ≡ 0 → new ≡ Some after → OpensNew Answers would_be_done families new answer
+opens Answers would_be_done families new answer ready after few is_ready answers done held =
+    record {
+      too_many = λ many. absurd (omega (arith, few, many));
+      few = λ _. inl (record {
+        ready = ready;
+        is_ready = is_ready;
+        after = after;
+        answers = answers;
+        done = λ _. held;
+      });
+      refused = λ no. absurd (no done);
     }
 
--- it wasn't done, so there is no block
-pub opens-not : (moment : ℕ) (places : List Place) (new : Option OpenReceiver) (answer : ℕ)
-    → AnswersOpening moment three_closed places answer → answer ≢ 0 → new ≡ None
-    → OpensNew moment new answer
-opens-not moment places new answer done fails none = record {
-  answers = inl (subst (λ p. AnswersOpening moment three_closed p answer)
-      (done.refused fails ∙ sym (ap places_in none)) done);
+-- without memory it answers what is said of places that need none, or that memory lacks
+pub lacks : (Answers : OfPlaces) (would_be_done : Type 0) (families : ℕ)
+    (new : Option OpenReceiver) (plain answer : ℕ) → families ≤ most_families
+    → (plain ≡ 0 → answer ≡ number_of Memory) → (plain ≢ 0 → answer ≡ plain)
+    → (plain ≡ 0 → would_be_done)
+    → (plain ≢ 0 → answer ≡ plain → Answers PlainPlace plain_place three_closed three_closed)
+    → new ≡ None → OpensNew Answers would_be_done families new answer
+lacks Answers would_be_done families new zero answer few memory same done answers none = record {
+  too_many = λ many. absurd (omega (arith, few, many));
+  few = λ _. inr (inr (memory refl, done refl));
   refused = λ _. none;
 }
+lacks Answers would_be_done families new (suc n) answer few memory same done answers none =
+    let refuses : suc n ≢ 0 = λ e. omega (arith, e) in record {
+      too_many = λ many. absurd (omega (arith, few, many));
+      few = λ _. inr (inl
+          ((λ e. let is = same refuses in omega (arith, e, is)), answers refuses (same refuses)));
+      refused = λ _. none;
+    }
 
 -- a status that says why isn't that of all done
 never-done : (bytes : List ℕ) (why : Status) → RefusesState 3 bytes why → 0 ≡ number_of why → ⊥
@@ -60,50 +78,24 @@ never-done bytes why (inl (inl h)) e = omega (arith, e, ap number_of h.2)
 never-done bytes why (inl (inr h)) e = omega (arith, e, ap number_of h.2)
 never-done bytes why (inr h) e = omega (arith, e, ap number_of h.1)
 
-begins-it : (bytes : List ℕ) (places : List Place) → AnswersOpeningFrom bytes three_closed places 0
+-- closed places are opened only from bytes that begin with a state
+pub begins-it : (bytes : List ℕ) (new : List PlainPlace)
+    → AnswersOpeningFrom plain_place bytes three_closed new 0
     → BeginsWith bytes (λ states more. ⊤)
-begins-it bytes places done = elim done.opens [
+begins-it bytes new told = elim told.opens [
   | inl b ↦ begins-as bytes
-      (λ states more. (0 ≡ 0) × HasNoMore 3 states × HasHeard (starts_from states) places [] [])
+      (λ states more. (0 ≡ 0) × HasNoMore 3 states
+      × ((held : ℕ) → HaveRoom plain_place held three_closed
+      → HasHeard plain_place held (starts_from states) new [] []))
       (λ states more. ⊤) (λ states more h. tt) b
   | inr h ↦ absurd (never-done bytes h.0 h.1 h.2)
 ]
 
-pub opens-from : (bytes : List ℕ) (opened : OpenReceiver) (new : Option OpenReceiver) (answer : ℕ)
-    → AnswersOpeningFrom bytes three_closed opened.places 0 → (answer ≡ 0 → new ≡ Some opened)
-    → (answer ≢ 0 → (answer ≡ number_of Memory) × (new ≡ None)) → OpensNewFrom bytes new answer
-opens-from bytes opened new zero done held refused = record {
-  answers = inl (subst (λ o. AnswersOpeningFrom bytes three_closed (places_in o) 0)
-      (sym (held refl)) done);
-  refused = λ no. absurd (no refl);
-}
-opens-from bytes opened new (suc n) done held refused =
-    let why = refused (λ e. omega (arith, e)) in record {
-      answers = inr (why.0, begins-it bytes opened.places done);
-      refused = λ _. why.1;
-    }
-
--- where it isn't done, the places stay closed
-stays-closed : (bytes : List ℕ) (places : List Place) (answer : ℕ)
-    → AnswersOpeningFrom bytes three_closed places answer → answer ≢ 0 → places ≡ three_closed
-stays-closed bytes places answer done fails = elim done.opens [
+-- and stay as they were where they aren't opened
+pub stays-closed : (bytes : List ℕ) (new : List PlainPlace) (answer : ℕ)
+    → AnswersOpeningFrom plain_place bytes three_closed new answer → answer ≢ 0
+    → new ≡ three_closed
+stays-closed bytes new answer told fails = elim told.opens [
   | inl b ↦ absurd (fails b.here.0)
   | inr h ↦ h.3
 ]
-
-pub opens-from-not : (bytes : List ℕ) (places : List Place) (new : Option OpenReceiver)
-    (answer : ℕ) → AnswersOpeningFrom bytes three_closed places answer → answer ≢ 0
-    → new ≡ None → OpensNewFrom bytes new answer
-opens-from-not bytes places new answer done fails none = record {
-  answers = inl (subst (λ p. AnswersOpeningFrom bytes three_closed p answer)
-      (stays-closed bytes places answer done fails ∙ sym (ap places_in none)) done);
-  refused = λ _. none;
-}
-
--- where all channels are closed, there is no block
-pub closes-shut : (old places : List Place) (log : Room) (answer : ℕ)
-    → AnswersClosing old places log answer → all_closed places ≡ true → length places ≡ 3
-    → AnswersClosing old three_closed log answer
-closes-shut old places log answer closes closed long =
-    subst (λ p. AnswersClosing old p log answer)
-    (both-closed three_closed places refl closed long) closes

@@ -1,66 +1,109 @@
-//! The calls of a receiver. Each does with the places of its channels what `nx_handle` does.
+//! The calls of a receiver. Each does with the places of its channels what `nx_handle` does, be they
+//! plain ones or such as take the sendings of a message together.
 
-ghost use Rattle.std.specs.Prelude.{◌≡◌, None, true};
-ghost use Rattle.nx_c.specs.Opening.{OpensFromInBlock, OpensInBlock, places_in};
+ghost use Rattle.std.specs.Prelude.{◌≡◌, ◌≢◌, IfSome, None, false};
+ghost use Rattle.nx_c.specs.ByKind.{AnswersBy, is_closed, three_closed};
+ghost use Rattle.nx_c.specs.Opening.{OpensAt, OpensFromState};
 ghost use Rattle.nx_copies.specs.Events as events;
 ghost use Rattle.nx_receiver.specs.declared.command.Command.TheVariants.{RefuseStation, AcceptStation, RefuseSubject, AcceptSubject};
 ghost use Rattle.nx_handle.specs.CallerRoom.{room};
 ghost use Rattle.nx_handle.specs.Closing.{AnswersClosing};
 ghost use Rattle.nx_handle.specs.Hearing.{AnswersHearing};
 ghost use Rattle.nx_handle.specs.Opening.{AnswersMoment};
-ghost use Rattle.nx_handle.specs.Places.{all_closed, all_hear};
+ghost use Rattle.nx_handle.specs.Places.{all_hear};
 ghost use Rattle.nx_handle.specs.Saving.{AnswersSaving};
 ghost use Rattle.nx_handle.specs.Selecting.{AnswersSelecting, command_status};
+ghost use Rattle.nx_handle.specs.Sendings.{AnswersSendings};
+ghost use Rattle.nx_handle.specs.Status.{number_of};
+ghost use Rattle.nx_handle.specs.declared.status.Status.TheVariants.{Done, Memory};
 
 use crate::receiver::handle::NxReceiver;
 use crate::receiver::open_receiver::OpenReceiver;
-use nx_handle::{Place, Status, are_closed, copy_out};
+use nx_combine::MAX_FAMILIES;
+use nx_handle::{PlainPlace, Status, copy_out};
 use nx_receiver::Command;
 use std::alloc::Global;
 
 /// Opens a receiver at a moment, in whole seconds since 1970-01-01 00:00:00 UTC: it has heard
-/// nothing, remembers nothing, and everything is selected. Takes all memory that it ever needs.
+/// nothing, remembers nothing, and everything is selected. It holds so many families on each
+/// channel, for which the sendings of a message are taken together; with 0 each is taken alone.
+/// Takes all memory that it ever needs.
 ///
-/// `AlreadyOpen` where it is open; else `MomentRange` where the moment is past the year 2999; else
-/// `Done`, or `Memory` where there is none for its block. Where it isn't `Done`, the receiver stays
-/// as it was.
+/// `AlreadyOpen` where it is open; else `TooManyFamilies` where they are more than 200; else
+/// `MomentRange` where the moment is past the year 2999; else `Done`, or `Memory` where there is
+/// none. Where it isn't `Done`, the receiver stays as it was.
 #[unsafe(no_mangle)]
-pub extern "C" fn nx_open(alloc: Global, receiver: &mut NxReceiver, moment: u64) -> u32
-    ensures { OpensInBlock moment receiver.old.value receiver.new.value result }
+pub extern "C" fn nx_open(
+    alloc: Global,
+    receiver: &mut NxReceiver,
+    moment: u64,
+    families: usize,
+) -> u32
+    ensures { OpensAt moment families receiver.old.value receiver.new.value result }
 {
     if receiver.is_open(alloc) {
         return Status::AlreadyOpen.number();
     }
-    let mut opened = OpenReceiver {
-        places: [Place::Closed, Place::Closed, Place::Closed],
+    if families > MAX_FAMILIES {
+        return Status::TooManyFamilies.number();
+    }
+    let Ok(mut opened) = OpenReceiver::closed(alloc, families) else {
+        return without_memory(nx_handle::open(&mut closed_places(), moment));
     };
-    let status = nx_handle::open(&mut opened.places, moment);
+    let status = opened.open(moment);
     if status == Status::Done.number() {
-        return receiver.open_with(opened, alloc);
+        receiver.hold(opened, alloc);
     }
     status
 }
 
-/// Opens a receiver from the state with which these bytes begin: it remembers the state's entries,
-/// has its selection on each channel, and the greatest moment of an entry. What stands behind the
-/// state isn't read.
+/// Opens a receiver from the state with which these bytes begin, with so many families on each
+/// channel: it remembers the state's entries, has its selection on each channel, and the greatest
+/// moment of an entry. What stands behind the state isn't read.
 ///
-/// `AlreadyOpen` where it is open; else `StateLine` or `StateCut` where the bytes begin with no
-/// state; else `Done`, or `Memory` where there is none for its block. Where it isn't `Done`, the
-/// receiver stays as it was.
+/// `AlreadyOpen` where it is open; else `TooManyFamilies` where they are more than 200; else
+/// `StateLine` or `StateCut` where the bytes begin with no state; else `Done`, or `Memory` where
+/// there is none. Where it isn't `Done`, the receiver stays as it was.
 #[unsafe(no_mangle)]
-pub extern "C" fn nx_open_from(alloc: Global, receiver: &mut NxReceiver, state: &[u8]) -> u32
-    ensures { OpensFromInBlock state.now receiver.old.value receiver.new.value result }
+pub extern "C" fn nx_open_from(
+    alloc: Global,
+    receiver: &mut NxReceiver,
+    state: &[u8],
+    families: usize,
+) -> u32
+    ensures { OpensFromState state.now families receiver.old.value receiver.new.value result }
 {
     if receiver.is_open(alloc) {
         return Status::AlreadyOpen.number();
     }
-    let mut opened = OpenReceiver {
-        places: [Place::Closed, Place::Closed, Place::Closed],
+    if families > MAX_FAMILIES {
+        return Status::TooManyFamilies.number();
+    }
+    let Ok(mut opened) = OpenReceiver::closed(alloc, families) else {
+        return without_memory(nx_handle::open_from(&mut closed_places(), state));
     };
-    let status = nx_handle::open_from(&mut opened.places, state);
+    let status = opened.open_from(state);
     if status == Status::Done.number() {
-        return receiver.open_with(opened, alloc);
+        receiver.hold(opened, alloc);
+    }
+    status
+}
+
+/// The places of three channels of a closed receiver, which has no memory.
+fn closed_places() -> [PlainPlace; 3]
+    ensures { result ≡ three_closed }
+{
+    [PlainPlace::Closed, PlainPlace::Closed, PlainPlace::Closed]
+}
+
+/// The number of the status of opening where there is no memory, and it would have this status else:
+/// what is refused is told first.
+fn without_memory(status: u32) -> u32
+    ensures done { status ≡ number_of Done → result ≡ number_of Memory }
+    ensures refused { status ≢ number_of Done → result ≡ status }
+{
+    if status == Status::Done.number() {
+        return Status::Memory.number();
     }
     status
 }
@@ -69,14 +112,13 @@ pub extern "C" fn nx_open_from(alloc: Global, receiver: &mut NxReceiver, state: 
 /// `MomentBack` where it is before the one in force; the receiver then stays as it was.
 #[unsafe(no_mangle)]
 pub extern "C" fn nx_set_moment(alloc: Global, receiver: &mut NxReceiver, moment: u64) -> u32
-    ensures { AnswersMoment moment (places_in receiver.old.value)
-        (places_in receiver.new.value) result
-        (all_hear (places_in receiver.old.value)) }
+    ensures { AnswersBy (λ P kind old new. AnswersMoment kind moment old new result
+        (all_hear kind old)) receiver.old.value receiver.new.value }
 {
     let Some(mut opened) = receiver.take(alloc) else {
         return Status::Closed.number();
     };
-    let status = nx_handle::set_moment(&mut opened.places, moment);
+    let status = opened.set_moment(moment);
     receiver.hold(opened, alloc);
     status
 }
@@ -98,16 +140,40 @@ pub extern "C" fn nx_hear(
     log: &mut [u8],
     written: &mut usize,
 ) -> u32
-    ensures { AnswersHearing channel elements.now (places_in receiver.old.value)
-        (places_in receiver.new.value) heard.new
-        (room log.old log.new written.new) result }
+    ensures { AnswersBy (λ P kind old new. AnswersHearing kind channel elements.now old new
+        heard.new (room log.old log.new written.new) result)
+        receiver.old.value receiver.new.value }
 {
     let Some(mut opened) = receiver.take(alloc) else {
         *heard = 0;
         copy_out(&[], log, written);
         return Status::Closed.number();
     };
-    let status = nx_handle::hear(&mut opened.places, channel, elements, heard, log, written);
+    let status = opened.hear(channel, elements, heard, log, written);
+    receiver.hold(opened, alloc);
+    status
+}
+
+/// Tells from how many sendings the entry is put together that a channel, 0 to 2, printed last.
+///
+/// `Closed` where the receiver is closed, or its end has begun; else `NoChannel` where there is no
+/// such channel; else `Done`. Where it isn't `Done`, 0 is told. The receiver stays as it was.
+#[unsafe(no_mangle)]
+pub extern "C" fn nx_sendings(
+    alloc: Global,
+    receiver: &mut NxReceiver,
+    channel: u8,
+    sendings: &mut u64,
+) -> u32
+    ensures tells { AnswersBy (λ P kind places same. AnswersSendings kind channel places
+        sendings.new result) receiver.old.value receiver.new.value }
+    ensures unchanged { receiver.new.value ≡ receiver.old.value }
+{
+    let Some(opened) = receiver.take(alloc) else {
+        *sendings = 0;
+        return Status::Closed.number();
+    };
+    let status = opened.sendings(channel, sendings);
     receiver.hold(opened, alloc);
     status
 }
@@ -120,14 +186,14 @@ pub extern "C" fn nx_refuse_station(
     channel: u8,
     station: u8,
 ) -> u32
-    ensures { AnswersSelecting (command_status channel 3 (RefuseStation station))
-        (events.refuse_station station) channel (places_in receiver.old.value)
-        (places_in receiver.new.value) result }
+    ensures { AnswersBy (λ P kind old new. AnswersSelecting kind
+        (command_status channel 3 (RefuseStation station)) (events.refuse_station station) channel old
+        new result) receiver.old.value receiver.new.value }
 {
     let Some(mut opened) = receiver.take(alloc) else {
         return Status::Closed.number();
     };
-    let status = nx_handle::select(&mut opened.places, channel, Command::RefuseStation(station));
+    let status = opened.select(channel, Command::RefuseStation(station));
     receiver.hold(opened, alloc);
     status
 }
@@ -140,14 +206,14 @@ pub extern "C" fn nx_accept_station(
     channel: u8,
     station: u8,
 ) -> u32
-    ensures { AnswersSelecting (command_status channel 3 (AcceptStation station))
-        (events.accept_station station) channel (places_in receiver.old.value)
-        (places_in receiver.new.value) result }
+    ensures { AnswersBy (λ P kind old new. AnswersSelecting kind
+        (command_status channel 3 (AcceptStation station)) (events.accept_station station) channel old
+        new result) receiver.old.value receiver.new.value }
 {
     let Some(mut opened) = receiver.take(alloc) else {
         return Status::Closed.number();
     };
-    let status = nx_handle::select(&mut opened.places, channel, Command::AcceptStation(station));
+    let status = opened.select(channel, Command::AcceptStation(station));
     receiver.hold(opened, alloc);
     status
 }
@@ -161,14 +227,14 @@ pub extern "C" fn nx_refuse_subject(
     channel: u8,
     subject: u8,
 ) -> u32
-    ensures { AnswersSelecting (command_status channel 3 (RefuseSubject subject))
-        (events.refuse_subject subject) channel (places_in receiver.old.value)
-        (places_in receiver.new.value) result }
+    ensures { AnswersBy (λ P kind old new. AnswersSelecting kind
+        (command_status channel 3 (RefuseSubject subject)) (events.refuse_subject subject) channel old
+        new result) receiver.old.value receiver.new.value }
 {
     let Some(mut opened) = receiver.take(alloc) else {
         return Status::Closed.number();
     };
-    let status = nx_handle::select(&mut opened.places, channel, Command::RefuseSubject(subject));
+    let status = opened.select(channel, Command::RefuseSubject(subject));
     receiver.hold(opened, alloc);
     status
 }
@@ -181,14 +247,14 @@ pub extern "C" fn nx_accept_subject(
     channel: u8,
     subject: u8,
 ) -> u32
-    ensures { AnswersSelecting (command_status channel 3 (AcceptSubject subject))
-        (events.accept_subject subject) channel (places_in receiver.old.value)
-        (places_in receiver.new.value) result }
+    ensures { AnswersBy (λ P kind old new. AnswersSelecting kind
+        (command_status channel 3 (AcceptSubject subject)) (events.accept_subject subject) channel old
+        new result) receiver.old.value receiver.new.value }
 {
     let Some(mut opened) = receiver.take(alloc) else {
         return Status::Closed.number();
     };
-    let status = nx_handle::select(&mut opened.places, channel, Command::AcceptSubject(subject));
+    let status = opened.select(channel, Command::AcceptSubject(subject));
     receiver.hold(opened, alloc);
     status
 }
@@ -206,15 +272,14 @@ pub extern "C" fn nx_save(
     state: &mut [u8],
     written: &mut usize,
 ) -> u32
-    ensures { AnswersSaving (places_in receiver.old.value)
-        (places_in receiver.new.value)
-        (room state.old state.new written.new) result }
+    ensures { AnswersBy (λ P kind old new. AnswersSaving kind old new
+        (room state.old state.new written.new) result) receiver.old.value receiver.new.value }
 {
     let Some(opened) = receiver.take(alloc) else {
         copy_out(&[], state, written);
         return Status::Closed.number();
     };
-    let status = nx_handle::save(&opened.places, state, written);
+    let status = opened.save(state, written);
     receiver.hold(opened, alloc);
     status
 }
@@ -232,17 +297,16 @@ pub extern "C" fn nx_close(
     log: &mut [u8],
     written: &mut usize,
 ) -> u32
-    ensures closes { AnswersClosing (places_in receiver.old.value)
-        (places_in receiver.new.value) (room log.old log.new written.new) result }
-    ensures closed { all_closed (places_in receiver.new.value) ≡ true
-        → receiver.new.value ≡ None }
+    ensures closes { AnswersBy (λ P kind old new. AnswersClosing kind old new
+        (room log.old log.new written.new) result) receiver.old.value receiver.new.value }
+    ensures closed { IfSome receiver.new.value (λ opened. is_closed opened ≡ false) }
 {
     let Some(mut opened) = receiver.take(alloc) else {
         copy_out(&[], log, written);
         return Status::Closed.number();
     };
-    let status = nx_handle::close(&mut opened.places, log, written);
-    if are_closed(&opened.places) {
+    let status = opened.close(log, written);
+    if opened.is_closed() {
         return status;
     }
     receiver.hold(opened, alloc);

@@ -1,14 +1,11 @@
 //! A receiver in the caller's memory, which is a pointer to what it has where it is open.
 
-ghost use Rattle.std.specs.Prelude.{◌≡◌, ◌≢◌, None, Some, MatchOption, Option, is_some};
+ghost use Rattle.std.specs.Prelude.{◌≡◌, None, Some, MatchOption, Option, is_some};
 ghost use Rattle.nx_c.specs.Handle.{handle_owns, open_coded};
-ghost use Rattle.nx_handle.specs.Status.{number_of};
 ghost use Rattle.nx_c.specs.declared.receiver.open_receiver.OpenReceiver.{OpenReceiver as WhatIsOpen};
-ghost use Rattle.nx_handle.specs.declared.status.Status.TheVariants.{Done, Memory};
 
 use crate::receiver::loose::Loose;
 use crate::receiver::open_receiver::OpenReceiver;
-use nx_handle::Status;
 use std::alloc::Global;
 use std::marker::Model;
 use std::mem::replace;
@@ -75,22 +72,6 @@ impl NxReceiver {
         let receiver = NxReceiver::of_loose(Loose::of(opened));
         if let Some(loose) = replace(self, receiver).into_loose(alloc) {
             drop(loose.into_box());
-        }
-    }
-
-    /// Opens a receiver that has this, in a block of its own. Answers the number of
-    /// `Done`, or of `Memory` where there is none for the block; the receiver then stays as it was.
-    pub(crate) fn open_with(&mut self, opened: OpenReceiver, alloc: Global) -> u32
-        ensures done { result ≡ number_of Done → self.new.value ≡ Some opened }
-        ensures refused { result ≢ number_of Done
-            → (result ≡ number_of Memory) × (self.new.value ≡ self.old.value) }
-    {
-        match Box::new(alloc, opened) {
-            Ok(opened) => {
-                self.hold(opened, alloc);
-                Status::Done.number()
-            }
-            Err(_) => Status::Memory.number(),
         }
     }
 

@@ -1,6 +1,6 @@
 -- What a call that combines a copy answers, by what becomes of the copy.
 use Rattle.std.proofs.Common.{◌≡◌, ℕ, ◌+◌, ◌-◌, Bool, true, false, if◌then◌else◌, Option, Some}
-use Rattle.std.proofs.Common.{None}
+use Rattle.std.proofs.Common.{None, is_some, not}
 use Rattle.std.proofs.Common.{List, [], ◌∷◌, length, take, refl, sym, ap, ap₂, ◌∙◌, arith}
 use Rattle.std.specs.Option.{option_map_or}
 use Rattle.std.proofs.Math.ListN.{set}
@@ -24,6 +24,7 @@ use Rattle.nx_combine.specs.Families.{CombinedCopy, Family, begun_by, combined}
 use Rattle.nx_combine.specs.Families.{combined_copy_holding}
 use Rattle.nx_combine.specs.Families.{families_after_holding, given_by}
 use Rattle.nx_combine.specs.Families.{has_family, index_joined_holding, joined_at, joined_by}
+use Rattle.nx_combine.specs.Families.{sendings_of}
 use Rattle.nx_combine.specs.PositionEnds.{HasRead, ending_by}
 use Rattle.nx_combine.proofs.lemmas.Held.{begins_one, index_joined-take}
 use Rattle.nx_combine.proofs.lemmas.Held.{joined_at-take, joined_at_index, joins_one, no_family}
@@ -107,17 +108,18 @@ given_chosen positions head found text read selected b gives read_is is fails =
 -- The three things that may become of a copy. The last of the families are held, so many.
 
 pub record Answers (limit : ℕ) (families held : List Family) (heard : HeardCopy) (read : List ℕ)
-    (family : Option ℕ) (begins : Bool) (given : Option EntryHead) : Type 0 where
+    (family : Option ℕ) (begins : Bool) (given : Option EntryHead) (sendings : ℕ)
+    : Type 0 where
   pub after : held ≡ take limit (families_after_holding limit families heard)
   pub combined : IsCombined (combined_copy_holding limit families heard)
       (families_after_holding limit families heard) read
-      (record { family = family; begins = begins; given = given })
+      (record { family = family; begins = begins; given = given; sendings = sendings })
   pub count : length (families_after_holding limit families heard)
       ≡ length families + begun_with begins
 
 pub answers_none : (limit : ℕ) (families held : List Family) (heard : HeardCopy) (read : List ℕ)
     → held ≡ take limit families → has_family heard ≡ false
-    → Answers limit families held heard read None false None
+    → Answers limit families held heard read None false None 1
 answers_none limit families held heard read stands is =
     let none = no_family limit families heard is in
     record {
@@ -126,8 +128,8 @@ answers_none limit families held heard read stands is =
         family = ap (λ (o : CombinedCopy). o.family) none.one;
         copy = ap (λ (o : CombinedCopy). o.copy) none.one
             ∙ ap (λ (o : CombinedCopy). o.own.copy) (sym none.one);
-        errors =
-            tt;
+        errors = tt;
+        sendings = ap (λ (o : CombinedCopy). o.sendings) none.one;
       };
       count = ap length none.after ∙ omega arith;
     }
@@ -137,7 +139,7 @@ pub answers_begun : (limit : ℕ) (families held new : List Family) (heard : Hea
     → held ≡ take limit families → has_family heard ≡ true → index_joined_holding limit held heard
     ≡ None
     → new ≡ take limit (begun_by heard ∷ held)
-    → Answers limit families new heard read (Some 0) true None
+    → Answers limit families new heard read (Some 0) true None 1
 answers_begun limit families held new heard read stands is none begun =
     let joins_none : index_joined_holding limit families heard ≡ None =
     sym (index_joined-take limit families heard)
@@ -155,8 +157,8 @@ answers_begun limit families held new heard read stands is none begun =
             ∙ ap (λ (l : List Family). Some (length l - 1 - 0)) (sym begins.after);
         copy = ap (λ (o : CombinedCopy). o.copy) begins.one
             ∙ ap (λ (o : CombinedCopy). o.own.copy) (sym begins.one);
-        errors =
-            tt;
+        errors = tt;
+        sendings = ap (λ (o : CombinedCopy). o.sendings) begins.one;
       };
       count = ap length begins.after ∙ omega arith;
     }
@@ -187,13 +189,16 @@ heard_with head positions = record { copy = headed_copy head [] true; positions 
 
 pub answers_joined : (limit : ℕ) (families held new : List Family) (heard : HeardCopy)
     (read : List ℕ)
-    (index : ℕ) (given : Option EntryHead) → held ≡ take limit families → has_family heard ≡ true
+    (index : ℕ) (given : Option EntryHead) (sendings : ℕ) → held ≡ take limit families
+    → has_family heard ≡ true
     → index_joined_holding limit held heard ≡ Some index → new ≡ joined_at held heard index
     → ((family : Family) → slice_get held index ≡ Some family
     → (combined (joined_by heard family).positions heard.copy ≡ meant given read heard.copy)
-    × IfSome given (λ head. head.errors ≡ errors_of read))
-    → Answers limit families new heard read (Some index) false given
-answers_joined limit families held new heard read index given stands is joins joined gives =
+    × IfSome given (λ head. head.errors ≡ errors_of read)
+    × (sendings_of (joined_by heard family) heard.copy ≡ sendings))
+    → Answers limit families new heard read (Some index) false given sendings
+answers_joined limit families held new heard read index given sendings stands is joins joined
+    gives =
     let joins_it : index_joined_holding limit families heard ≡ Some index =
     sym (index_joined-take limit families heard)
     ∙ ap (λ l. index_joined_holding limit l heard) (sym stands) ∙ joins in
@@ -218,6 +223,19 @@ answers_joined limit families held new heard read index given stands is joins jo
             ∙ what.0
             ∙ ap (λ (o : CombinedCopy). meant given read o.own.copy) (sym one.one);
         errors = what.1;
+        sendings = ap (λ (o : CombinedCopy). o.sendings) one.one ∙ what.2;
       };
       count = ap length one.after ∙ sym long ∙ omega arith;
     }
+
+-- from how many sendings a copy is put together that joined, by whether its family gives it
+pub sendings_by : (family : Family) (copy : TaggedCopy) (given : Option EntryHead) (counted : ℕ)
+    → is_some given ≡ not (is_better copy (given_by family.positions copy))
+    → counted ≡ (if is_some given then family.sendings else 1)
+    → sendings_of family copy ≡ counted
+sendings_by family copy given counted is counts =
+    elim (is_better copy (given_by family.positions copy)) as (λ b. is_some given ≡ not b
+    → (if b then 1 else family.sendings) ≡ counted) [
+      | true ↦ λ own. sym (counts ∙ ap (λ b. if b then family.sendings else 1) own)
+      | false ↦ λ gives. sym (counts ∙ ap (λ b. if b then family.sendings else 1) gives)
+    ] is

@@ -229,7 +229,7 @@ pub record Joins (limit : ℕ) (families : List Family) (heard : HeardCopy) (ind
   pub after : families_after_holding limit families heard
       ≡ set families index (joined_by heard family)
   pub one : combined_copy_holding limit families heard
-      ≡ together (length families - 1 - index) (joined_by heard family).positions heard
+      ≡ together (length families - 1 - index) (joined_by heard family) heard
 
 pub joins_one : (limit : ℕ) (families : List Family) (heard : HeardCopy) (index : ℕ)
     (family : Family)

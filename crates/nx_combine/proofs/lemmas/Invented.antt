@@ -54,8 +54,8 @@ split_where (Some x) (Some y) number is =
 
 -- A family that was replaced among the others.
 
-set_at : (families : List Family) (i : ℕ) (f g : Family) → slice_get (set families i f) i ≡ Some g
-    → f ≡ g
+pub set_at : (families : List Family) (i : ℕ) (f g : Family)
+    → slice_get (set families i f) i ≡ Some g → f ≡ g
 set_at [] i f g is = absurd (let contra : None ≡ Some g = is in cc)
 set_at (x ∷ families) zero f g is = let inside : Some f ≡ Some g = is in cc
 set_at (x ∷ families) (suc i) f g is = set_at families i f g is
@@ -168,7 +168,7 @@ begun_step families before heard taken = record {
 joined_step : (families : List Family) (before : List CombinedCopy) (heard : HeardCopy) (index : ℕ)
     (family : Family) → slice_get families index ≡ Some family → FamiliesTaken families before
     → StepTaken families before
-    (together (length families - 1 - index) (joined_by heard family).positions heard)
+    (together (length families - 1 - index) (joined_by heard family) heard)
     (set families index (joined_by heard family))
 joined_step families before heard index family there taken = record {
   own = λ at number has. elim (parts at number has) [
@@ -182,7 +182,7 @@ joined_step families before heard index family there taken = record {
   number_of = length families - 1 - index
 
   c : CombinedCopy
-  c = together number_of (joined_by heard family).positions heard
+  c = together number_of (joined_by heard family) heard
 
   parts : (at number : ℕ)
       → slice_get (joined family.positions heard.positions) at ≡ Some (combination number)
@@ -229,7 +229,7 @@ step_at : (families : List Family) (before : List CombinedCopy) (heard : HeardCo
     (o : Option Family) → slice_get families index ≡ o → FamiliesTaken families before
     → StepTaken families before
     (option_map_or
-    (λ family. together (length families - 1 - index) (joined_by heard family).positions heard) o
+    (λ family. together (length families - 1 - index) (joined_by heard family) heard) o
     (alone None heard))
     (option_map_or (λ family. set families index (joined_by heard family)) o families)
 step_at families before heard index None is taken = alone_step families before heard taken

@@ -43,7 +43,7 @@ pub find_as : {X : Type 0} (p q : X → Bool) (xs : List X) → ((x : X) → p x
 find_as p q [] alike = refl
 find_as p q (x ∷ xs) alike = ap₂ (λ b o. cond b (Some x) o) (alike x) (find_as p q xs alike)
 
-number_by : (one other : CombinedCopy) (number : ℕ) (own : Option ℕ) → one.family ≡ Some number
+pub number_by : (one other : CombinedCopy) (number : ℕ) (own : Option ℕ) → one.family ≡ Some number
     → other.family ≡ own → are_of_one_family one other ≡ is_of_number number other
 number_by one other number None is has = rw (is, has) refl
 number_by one other number (Some m) is has = rw (is, has) refl
@@ -342,6 +342,8 @@ pub record LeaveSame (limit : ℕ) (families : List Family) (cut heard : HeardCo
       ≡ (combined_copy_holding limit families heard).family
   pub copy : (combined_copy_holding limit families cut).copy
       ≡ (combined_copy_holding limit families heard).copy
+  pub sendings : (combined_copy_holding limit families cut).sendings
+      ≡ (combined_copy_holding limit families heard).sendings
 
 too_many : (heard : HeardCopy) → nat_le (length heard.positions) 8192 ≡ false
     → has_family heard ≡ false
@@ -368,6 +370,7 @@ cut_by limit families heard copy positions true is given few =
       after = ap (families_after_holding limit families) same;
       family = ap (λ h. (combined_copy_holding limit families h).family) same;
       copy = ap (λ h. (combined_copy_holding limit families h).copy) same;
+      sendings = ap (λ h. (combined_copy_holding limit families h).sendings) same;
     }
 cut_by limit families heard copy positions false is given many =
     let cut : HeardCopy = record { copy = copy; positions = positions } in
@@ -384,6 +387,8 @@ cut_by limit families heard copy positions false is given many =
       copy = ap (λ (o : CombinedCopy). o.copy) none_cut.one
           ∙ sym is
           ∙ sym (ap (λ (o : CombinedCopy). o.copy) none.one);
+      sendings = ap (λ (o : CombinedCopy). o.sendings) none_cut.one
+          ∙ sym (ap (λ (o : CombinedCopy). o.sendings) none.one);
     }
 
 pub cut_same : (limit : ℕ) (families : List Family) (heard : HeardCopy) (copy : TaggedCopy)

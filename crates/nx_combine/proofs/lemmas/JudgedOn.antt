@@ -23,7 +23,7 @@ use Rattle.nx_combine.specs.Families.{CombinedCopy, combined_copies_holding, com
 use Rattle.nx_combine.specs.Judging.{Judged, StandsHolding, all_copies, all_printed_holding}
 use Rattle.nx_combine.specs.Judging.{copies_printed}
 use Rattle.nx_combine.specs.Judging.{judged_after_holding, judged_behind_holding}
-use Rattle.nx_combine.specs.Judging.{printed_by_holding, text_printed}
+use Rattle.nx_combine.specs.Judging.{printed_by_holding, sendings_of_last, text_printed}
 use Rattle.nx_combine.specs.declared.combiner.PrintedCopy.{PrintedCopy}
 use Rattle.nx_combine.proofs.lemmas.Once.{all_printed-append, in_order_holding, unselected}
 use Rattle.nx_combine.proofs.lemmas.Judged.{unprinted}
@@ -39,7 +39,7 @@ judged_behind-push limit so_far (x ∷ xs) h = judged_behind-push limit
 pub has_judged_next : (limit : ℕ) {M : Type 0} (content : M → List MemoryEntry) (start : Start)
     (old new : CombiningReceiver M) (copies : List HeardCopy) (log printed : List TaggedCopy)
     (heard : HeardCopy) → HasJudged limit content start old copies log
-    → JudgesNext limit content new.memory new.combiner
+    → JudgesNext limit content new.memory new.combiner new.sendings
     (judged_behind_holding limit (judged_none start.entries) copies)
     heard printed
     → HasJudged limit content start new (copies ++ heard ∷ []) (log ++ printed)
@@ -62,6 +62,7 @@ has_judged_next limit content start old new copies log printed heard was is =
       combiner = subst (λ (j : Judged). StandsHolding limit new.combiner j.families j.printed) (sym
           after)
           is.stands;
+      sendings = is.counted ∙ ap (λ (j : Judged). sendings_of_last j.printed) (sym after);
     }
 
 -- what is printed of a copy was selected
@@ -88,11 +89,11 @@ pub begins_together : (limit : ℕ) {M : Type 0} (content : M → List MemoryEnt
     (receiver : CombiningReceiver M)
     → CombinedStands (first_setting start) receiver.synchroniser receiver.taker [] [] []
     → in_force (hearer_in receiver) ≡ first_setting start
-    → StandsHolding limit receiver.combiner [] [] → start.entries ≡ content receiver.memory
-    → length (content receiver.memory) ≤ most_entries
+    → StandsHolding limit receiver.combiner [] [] → receiver.sendings ≡ 0
+    → start.entries ≡ content receiver.memory → length (content receiver.memory) ≤ most_entries
     → StandsAfterAllHolding limit content start receiver [] []
 unfolding elements_among settings setting_after_all printed_combined combined_copies_holding
-begins_together limit content start receiver stands force combiner entries few =
+begins_together limit content start receiver stands force combiner none entries few =
     let all : last_of most_entries (content receiver.memory) ≡ content receiver.memory =
     ap (λ n. drop n (content receiver.memory))
     (let e : length (content receiver.memory) - most_entries ≡ 0 = omega arith in e) in
@@ -104,5 +105,6 @@ begins_together limit content start receiver stands force combiner entries few =
         printed = refl;
         memory = sym (ap (last_of most_entries) entries ∙ all);
         combiner = combiner;
+        sendings = none;
       };
     }

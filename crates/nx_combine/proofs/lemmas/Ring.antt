@@ -240,19 +240,28 @@ lent_joined families heard index family new there is =
 
 -- a family by its parts
 pub family_is : (family : Family) (identity : Identity) (moment : ℕ) (positions : List Reception)
+    (sendings : ℕ)
     → family.identity ≡ identity → family.moment ≡ moment → family.positions ≡ positions
-    → family ≡ record { identity = identity; moment = moment; positions = positions }
-family_is family identity moment positions i m p =
+    → family.sendings ≡ sendings
+    → family ≡ record {
+      identity = identity;
+      moment = moment;
+      positions = positions;
+      sendings = sendings;
+    }
+family_is family identity moment positions sendings i m p s =
     ap₂ (λ a b. let made : Family = record {
       identity = a;
       moment = b;
       positions = family.positions;
+      sendings = family.sendings;
     } in made) i m
-    ∙ ap (λ l. let made : Family = record {
+    ∙ ap₂ (λ l n. let made : Family = record {
       identity = identity;
       moment = moment;
       positions = l;
-    } in made) p
+      sendings = n;
+    } in made) p s
 
 -- The first index at which a test passes, by what stands at the indices.
 

@@ -18,7 +18,7 @@ use Rattle.nx_combine.specs.CombinedReceiver.{combined_kind_holding, judged_none
 use Rattle.nx_combine.specs.CombinedTaker.{TakesNow}
 use Rattle.nx_combine.specs.CopyPositions.{HeardCopy, ended_placed, past_placed, placed_to_end}
 use Rattle.nx_combine.specs.Judging.{HeldFamilies, StandsHolding, combiner_of}
-use Rattle.nx_combine.specs.Judging.{judged_behind_holding}
+use Rattle.nx_combine.specs.Judging.{judged_behind_holding, sendings_of_last}
 use Rattle.nx_combine.specs.declared.taker.CombinedTaker.{CombinedTaker}
 use Rattle.nx_combine.proofs.lemmas.Hearing.{nothing_combined}
 use Rattle.nx_combine.proofs.lemmas.JudgedOn.{begins_together}
@@ -89,10 +89,14 @@ module _ {S P M : Type 0} (lying : S → List P → HeldFamilies) (held : ℕ)
       (judged_behind_holding held (judged_none first.entries) c).families
       (judged_behind_holding held (judged_none first.entries) c).printed) no_copies
       s.judged.combiner in
+      let counted : r.sendings ≡ 0 =
+      s.judged.sendings
+      ∙ ap (λ c. sendings_of_last
+      (judged_behind_holding held (judged_none first.entries) c).printed) no_copies in
       begins_together held content start (receiver_in lying new places)
       (nothing_combined (first_setting start) r.synchroniser new.taker s.stands.takes.synchroniser
       fresh)
-      refl combines (none ∙ sym empty) (omega (arith, ap length empty))
+      refl combines counted (none ∙ sym empty) (omega (arith, ap length empty))
 
   -- a receiver takes a moment
   pub takes-moment : (r : ReceiverOver S M) (places : List P) (n : ℕ)

@@ -99,6 +99,7 @@ together_after limit content old now event none change start history log s =
         printed = s.judged.printed;
         memory = s.judged.memory;
         combiner = s.judged.combiner;
+        sendings = s.judged.sendings;
       };
     } in
     let bits = subst (λ (h : List Bool). StandsTogether limit content start new h

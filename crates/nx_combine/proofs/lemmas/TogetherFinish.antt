@@ -11,7 +11,7 @@ use Rattle.nx_memory.specs.Memory.{most_entries}
 use Rattle.nx_memory.specs.declared.memories.entry.MemoryEntry.{MemoryEntry}
 use Rattle.nx_copies.specs.Events.{Event, Setting, Start, elements_among, first_setting}
 use Rattle.nx_copies.specs.Events.{settings}
-use Rattle.nx_copies.specs.copies.FoundCopies.{TaggedCopy}
+use Rattle.nx_copies.specs.copies.FoundCopies.{TaggedCopy, headed_copy}
 use Rattle.nx_copies.specs.declared.copy_taker.Over.TheVariants as over
 use Rattle.nx_copies.specs.declared.entry.EntryHead.{EntryHead}
 use Rattle.nx_envelope.specs.declared.found.HeldCopy.{HeldCopy}
@@ -23,8 +23,8 @@ use Rattle.nx_copies.specs.hearing.CopyTaker.{hearer_of}
 use Rattle.nx_copies.proofs.lemmas.copy_hearer.Takes.{none_ready}
 use Rattle.nx_receiver.specs.Receiver.{headed_list}
 use Rattle.nx_combine.specs.CombinedHearing.{AllHeard, CombinedOver, CombinedStands, LockHeard}
-use Rattle.nx_combine.specs.CombinedHearing.{copies_of}
-use Rattle.nx_combine.specs.CombinedPrinting.{PrintsHoldingToEnd}
+use Rattle.nx_combine.specs.CombinedHearing.{HaveAllBeenHeard, copies_of}
+use Rattle.nx_combine.specs.CombinedPrinting.{PrintsHoldingToEnd, PrintsLastHoldingToEnd}
 use Rattle.nx_combine.specs.CombinedReceiver.{AwaitsAfterAllHolding, CombiningReceiver, HasJudged}
 use Rattle.nx_combine.specs.CombinedReceiver.{StandsAfterAllHolding, hearer_in}
 use Rattle.nx_combine.specs.private.CombinedReceiver.{JudgesNext}
@@ -32,8 +32,10 @@ use Rattle.nx_combine.specs.CombinedReceiver.{judged_none}
 use Rattle.nx_combine.specs.CombinedReceiver.{text_in}
 use Rattle.nx_combine.specs.CopyPositions.{HeardCopy}
 use Rattle.nx_combine.specs.Judging.{Judged, StandsHolding, judged_behind_holding}
+use Rattle.nx_combine.specs.Judging.{sendings_of_last}
 use Rattle.nx_combine.specs.Notes.{noted}
 use Rattle.nx_combine.specs.declared.taker.CombinedTaker.{CombinedTaker}
+use Rattle.nx_combine.proofs.lemmas.Counted.{counted_to_end}
 use Rattle.nx_combine.proofs.lemmas.JudgedOn.{has_judged_next}
 use Rattle.nx_combine.proofs.lemmas.TogetherHears.{printed_to_end}
 
@@ -42,12 +44,14 @@ pub record IsJudgedReady (limit : ℕ) {M : Type 0} (content : M → List Memory
     (old new : CombiningReceiver M) (head : Option EntryHead) : Type 0 where
   pub none : ready_copies (hearer_in old) ≡ []
       → (head ≡ None) × (new.memory ≡ old.memory) × (new.combiner ≡ old.combiner)
+      × (new.sendings ≡ old.sendings)
   pub judged : (so_far : Judged) (heard : HeardCopy)
       → ready_copies (hearer_in old) ≡ heard.copy ∷ []
       → old.taker.notes.positions ≡ noted heard.positions
       → content old.memory ≡ last_of most_entries so_far.entries
       → StandsHolding limit old.combiner so_far.families so_far.printed
-      → JudgesNext limit content new.memory new.combiner so_far heard
+      → old.sendings ≡ sendings_of_last so_far.printed
+      → JudgesNext limit content new.memory new.combiner new.sendings so_far heard
       (headed_list head (text_in new))
   pub taker : new.taker ≡ old.taker
   pub synchroniser : new.synchroniser ≡ old.synchroniser
@@ -90,7 +94,7 @@ module _ (limit : ℕ) {M : Type 0} (content : M → List MemoryEntry) (start : 
         judged = has_judged_next limit content start old new awaits.copies log
             (headed_list head (text_in new)) c.copy awaits.judged
             (is.judged so_far c.copy c.has.ready c.has.positions awaits.judged.memory
-            awaits.judged.combiner);
+            awaits.judged.combiner awaits.judged.sendings);
       }
 
   -- where no copy was ready, nothing was judged
@@ -110,6 +114,7 @@ module _ (limit : ℕ) {M : Type 0} (content : M → List MemoryEntry) (start : 
             (judged_behind_holding limit (judged_none start.entries) copies).families
             (judged_behind_holding limit (judged_none start.entries) copies).printed) (sym none.2)
             was.combiner;
+        sendings = none.3 ∙ was.sendings;
       }
 
   none_done : (old new : CombiningReceiver M) (head : Option EntryHead)
@@ -165,6 +170,7 @@ module _ (limit : ℕ) {M : Type 0} (content : M → List MemoryEntry) (start : 
               printed = awaits.judged.printed;
               memory = awaits.judged.memory;
               combiner = awaits.judged.combiner;
+              sendings = awaits.judged.sendings;
             };
           })
       by_ready false ready =
@@ -176,6 +182,7 @@ module _ (limit : ℕ) {M : Type 0} (content : M → List MemoryEntry) (start : 
               printed = awaits.judged.printed;
               memory = awaits.judged.memory;
               combiner = awaits.judged.combiner;
+              sendings = awaits.judged.sendings;
             };
           })
 
@@ -201,7 +208,7 @@ module _ (limit : ℕ) {M : Type 0} (content : M → List MemoryEntry) (start : 
       let judged = has_judged_next limit content start old new awaits.copies log
       (headed_list head (text_in new)) c.copy awaits.judged
       (is.judged so_far c.copy c.has.ready c.has.positions awaits.judged.memory
-      awaits.judged.combiner) in
+      awaits.judged.combiner awaits.judged.sendings) in
       let lock : LockHeard first new.synchroniser new.taker h s (awaits.copies ++ c.copy ∷ []) =
       rw (is.taker, is.synchroniser) c.lock in
       let ready : is_ready new.taker.copies.reader.finder ≡ true =
@@ -218,6 +225,7 @@ module _ (limit : ℕ) {M : Type 0} (content : M → List MemoryEntry) (start : 
           printed = ap (λ t. log ++ headed_list head t) texts ∙ judged.printed;
           memory = judged.memory;
           combiner = judged.combiner;
+          sendings = judged.sendings;
         };
       }
 
@@ -236,29 +244,67 @@ module _ (limit : ℕ) {M : Type 0} (content : M → List MemoryEntry) (start : 
       (headed_list head (text_in new)) one was
       (is.judged (judged_behind_holding limit (judged_none start.entries) copies) one ready
       (All-head (λ heard. old.taker.notes.positions ≡ noted heard.positions) one [] positions)
-      was.memory was.combiner)
+      was.memory was.combiner was.sendings)
   last_judged old new head copies (one ∷ other ∷ more) is ready positions was =
       let finder = old.taker.copies.reader.finder in
       absurd (one_ready finder.copy finder.text old.taker.copies.tag one.copy other.copy
       (copies_of more) ready)
 
-  pub all_done : (old new : CombiningReceiver M) (closed : CombinedTaker)
-      (head : Option EntryHead) (given : List TaggedCopy)
+  -- where all elements ended, all copies were heard, and what is printed of them was judged
+  record AllJudged (new : CombiningReceiver M) (head : Option EntryHead) : Type 0 where
+    copies : List HeardCopy
+    heard : HaveAllBeenHeard (first_setting start) (elements_among history)
+        (settings (first_setting start) history) copies
+    judged : HasJudged limit content start new copies (log ++ headed_list head (text_in new))
+
+  all_judged : (old new : CombiningReceiver M) (closed : CombinedTaker) (head : Option EntryHead)
       → ((first : Setting) (bits : List Bool) (settings : List Setting) (copies : List HeardCopy)
       → CombinedStands first old.synchroniser old.taker bits settings copies
       → AllHeard first old.synchroniser closed bits settings copies)
       → IsJudgedReady limit content (with_its old closed) new head
-      → given ≡ headed_list head (text_in new)
-      → StandsAfterAllHolding limit content start old history log
-      → PrintsHoldingToEnd limit start history (log ++ given)
-  all_done old new closed head given ends is same s =
+      → StandsAfterAllHolding limit content start old history log → AllJudged new head
+  all_judged old new closed head ends is s =
       let first = first_setting start in
       let all = ends first (elements_among history) (settings first history) s.copies s.stands in
-      let judged = last_judged (with_its old closed) new head s.copies all.last is all.ready
-      all.positions (record {
-        printed = s.judged.printed;
-        memory = s.judged.memory;
-        combiner = s.judged.combiner;
-      }) in
-      printed_to_end limit start history (s.copies ++ all.last) (log ++ given) all.all
-      (ap (λ l. log ++ l) same ∙ judged.printed)
+      record {
+        copies = s.copies ++ all.last;
+        heard = all.all;
+        judged = last_judged (with_its old closed) new head s.copies all.last is all.ready
+            all.positions
+            (record {
+              printed = s.judged.printed;
+              memory = s.judged.memory;
+              combiner = s.judged.combiner;
+              sendings = s.judged.sendings;
+            });
+      }
+
+  pub all_done : (old new : CombiningReceiver M) (closed : CombinedTaker)
+      (head : Option EntryHead)
+      → ((first : Setting) (bits : List Bool) (settings : List Setting) (copies : List HeardCopy)
+      → CombinedStands first old.synchroniser old.taker bits settings copies
+      → AllHeard first old.synchroniser closed bits settings copies)
+      → IsJudgedReady limit content (with_its old closed) new head
+      → StandsAfterAllHolding limit content start old history log
+      → PrintsHoldingToEnd limit start history (log ++ headed_list head (text_in new))
+  all_done old new closed head ends is s =
+      let all = all_judged old new closed head ends is s in
+      printed_to_end limit start history all.copies (log ++ headed_list head (text_in new))
+      all.heard all.judged.printed
+
+  -- and the number of the last one is that of the receiver
+  pub all_counted : (old new : CombiningReceiver M) (closed : CombinedTaker)
+      (answer : Option EntryHead) (head : EntryHead)
+      → ((first : Setting) (bits : List Bool) (settings : List Setting) (copies : List HeardCopy)
+      → CombinedStands first old.synchroniser old.taker bits settings copies
+      → AllHeard first old.synchroniser closed bits settings copies)
+      → IsJudgedReady limit content (with_its old closed) new answer → answer ≡ Some head
+      → StandsAfterAllHolding limit content start old history log
+      → PrintsLastHoldingToEnd limit start history (headed_copy head (text_in new) true)
+      new.sendings
+  all_counted old new closed answer head ends is said s =
+      let all = all_judged old new closed answer ends is s in
+      counted_to_end limit content start new history all.copies log
+      (headed_copy head (text_in new) true) all.heard
+      (subst (λ o. HasJudged limit content start new all.copies
+      (log ++ headed_list o (text_in new))) said all.judged)

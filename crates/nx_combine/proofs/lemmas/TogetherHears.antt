@@ -59,6 +59,7 @@ together_on limit content old held taker bits answer hears start events log s =
         printed = s.judged.printed;
         memory = s.judged.memory;
         combiner = s.judged.combiner;
+        sendings = s.judged.sendings;
       };
     } in
     let all = events ++ elements bits in

@@ -43,7 +43,7 @@ combined_isnt_worse positions copy =
 
 at_isnt_worse : (heard : HeardCopy) (number : ℕ) (o : Option Family)
     → is_better heard.copy
-    (option_map_or (λ family. together number (joined_by heard family).positions heard) o
+    (option_map_or (λ family. together number (joined_by heard family) heard) o
     (alone None heard)).copy ≡ false
 at_isnt_worse heard number None = better_than_itself heard.copy
 at_isnt_worse heard number (Some family) =

@@ -1,5 +1,5 @@
 -- What is done in a place that combines.
-use Rattle.std.proofs.Common.{◌≡◌, ◌≤◌, ◌+◌, ℕ, Bool, List, [], ◌++◌, Option, None, Some, length, take, drop, refl, subst, sym}
+use Rattle.std.proofs.Common.{◌≡◌, ◌≤◌, ◌+◌, ℕ, Bool, List, [], ◌∷◌, ◌++◌, Option, None, Some, length, take, drop, subst, sym}
 use Rattle.nx_copies.specs.Events.{Event, Start, elements}
 use Rattle.nx_copies.specs.copies.FoundCopies.{TaggedCopy}
 use Rattle.nx_copies.specs.declared.copy_taker.Over.{Over}
@@ -8,13 +8,14 @@ use Rattle.nx_receiver.specs.ChannelReceiver.{HandsOutNoneBeforeBy, HearsUpToBy}
 use Rattle.nx_receiver.specs.Receiver.{headed_list}
 use Rattle.nx_receiver.proofs.lemmas.receiver.Feeds.{Fed, FedUpTo, fed_before, fed_finished}
 use Rattle.nx_receiver.proofs.lemmas.receiver.Feeds.{fed_no_copy, fed_over, fed_packed, fed_quiet}
+use Rattle.nx_combine.specs.CombinedPrinting.{HasPrintedLastHolding}
 use Rattle.nx_combine.specs.CombinedReceiver.{AwaitsAfterAllHolding, LeavesHolding}
 use Rattle.nx_combine.specs.CombinedReceiver.{StandsAfterAllHolding, combined_kind_holding}
 use Rattle.nx_combine.specs.CombinedReceiver.{receiver_in, text_over}
 use Rattle.nx_combine.specs.FamilyPlaces.{LentFamily, held_in}
 use Rattle.nx_combine.specs.private.CombiningLaws.{none-awaited}
 use Rattle.nx_copies.specs.declared.entry.EntryHead.{EntryHead}
-use Rattle.nx_handle.specs.CombiningPlaces.{StandsLent}
+use Rattle.nx_handle.specs.CombiningPlaces.{CombinesSendings, StandsLent}
 use Rattle.nx_handle.specs.FamilyRooms.{OneCombining}
 use Rattle.nx_handle.specs.PlainPlaces.{content}
 use Rattle.nx_handle.specs.private.CombiningPlaces.{HearsInRoom}
@@ -33,6 +34,24 @@ leaves-in held start lent state r history log left is s leaves =
     subst (λ n. LeavesHolding n start history left) stands.0
     (leaves (subst (λ n. StandsAfterAllHolding n content start (receiver_in held_in r lent) history
     log) (sym stands.0) stands.1))
+
+-- what is told of the last copy of a place is what its receiver tells
+pub sendings-in : (held : ℕ) (start : Start) (lent : List LentFamily) (state : CombiningState)
+    (r : OneCombining) (history : List Event) (log : List TaggedCopy) (sendings : ℕ)
+    → state ≡ Hears r → StandsLent held start lent state history log
+    → ((earlier : List TaggedCopy) (copy : TaggedCopy)
+    → StandsAfterAllHolding (length lent) content start (receiver_in held_in r lent) history
+    (earlier ++ copy ∷ [])
+    → HasPrintedLastHolding (length lent) start history copy sendings)
+    → CombinesSendings held start history log sendings
+sendings-in held start lent state r history log sendings is s told earlier copy e =
+    let stands = subst (λ x. StandsLent held start lent x history log) is s in
+    subst (λ n. HasPrintedLastHolding n start history copy sendings) stands.0
+    (told earlier copy
+    (subst (λ l. StandsAfterAllHolding (length lent) content start (receiver_in held_in r lent)
+    history l) e
+    (subst (λ n. StandsAfterAllHolding n content start (receiver_in held_in r lent) history log)
+    (sym stands.0) stands.1)))
 
 -- ---- elements that are heard piece by piece
 

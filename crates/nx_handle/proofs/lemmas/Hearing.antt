@@ -16,7 +16,8 @@ use Rattle.nx_receiver.specs.Receiver.{headed_list}
 use Rattle.std.specs.Prelude.{Option, Some}
 use Rattle.nx_handle.specs.Hearing.{element_of, elements_of}
 use Rattle.nx_handle.specs.private.Hearing.{HearsOn}
-use Rattle.nx_handle.specs.PlaceKinds.{PlaceKind, receiver_of}
+use Rattle.nx_handle.specs.PlaceKinds.{PlaceKind, SameRoom, receiver_of}
+use Rattle.nx_handle.proofs.lemmas.Places.{room-then}
 
 -- a receiver hears elements, and hands out these copies
 abbrev pub Heard : {P : Type 0} → PlaceKind P → P → P → List Bool → List TaggedCopy → Type 0
@@ -33,7 +34,7 @@ pub record HearsSilently {P : Type 0} (kind : PlaceKind P) (old new : P) (bits :
       → kind.stands held start new (history ++ elements bits) log
   pub first : (held : ℕ) → HandsOutNoneBeforeBy (receiver_of kind held) old bits (length bits)
   pub now : kind.is_hearing new ≡ true
-  pub room : kind.families new ≡ kind.families old
+  pub room : SameRoom kind old new
 
 pub hears-nothing : {P : Type 0} (kind : PlaceKind P) (old : P) → kind.is_hearing old ≡ true
     → HearsSilently kind old old []
@@ -42,7 +43,7 @@ hears-nothing kind old hears = record {
       (sym (append-nil history)) s;
   first = λ held start history log s k lt. absurd (omega (arith, lt));
   now = hears;
-  room = refl;
+  room = record { families = refl; vacant = refl };
 }
 
 -- more elements, behind others
@@ -131,7 +132,7 @@ pub silent-more : {P : Type 0} (kind : PlaceKind P) (old mid new : P) (one more 
     (next : List TaggedCopy) → bits ≡ one ++ more → next ≡ [] → HearsSilently kind old mid one
     → Heard kind mid new more next
     → ((held : ℕ) → HandsOutNoneBeforeBy (receiver_of kind held) mid more (length more))
-    → kind.is_hearing new ≡ true → kind.families new ≡ kind.families mid
+    → kind.is_hearing new ≡ true → SameRoom kind mid new
     → HearsSilently kind old new bits
 silent-more kind old mid new one more bits next e none h heard first now room = record {
   heard = λ held start history log s. subst
@@ -140,7 +141,7 @@ silent-more kind old mid new one more bits next e none h heard first now room = 
       (heard-more kind old mid new one more bits next e h heard held start history log s);
   first = none-before-more kind old mid one more bits e h first;
   now = now;
-  room = room ∙ h.room;
+  room = room-then kind h.room room;
 }
 
 -- what is heard silently is heard, and has no log
@@ -167,7 +168,7 @@ pub hears-spelled : {P : Type 0} (kind : PlaceKind P) (channel : Channel) (old m
     → IsEntry (marked channel (headed_copy one_head text true)) bytes
     → Heard kind mid new more (headed_list head text)
     → ((held : ℕ) → HandsOutNoneBeforeBy (receiver_of kind held) mid more (length more))
-    → kind.is_hearing new ≡ true → kind.families new ≡ kind.families mid
+    → kind.is_hearing new ≡ true → SameRoom kind mid new
     → HearsOn kind channel old new bits bytes
 hears-spelled kind channel old mid new one more bits head one_head text bytes e some is h spelled
     heard first now room =
@@ -184,7 +185,7 @@ hears-spelled kind channel old mid new one more bits head one_head text bytes e 
           (heard held start history log s));
       first = none-before-more kind old mid one more bits e h first;
       now = now;
-      room = room ∙ h.room;
+      room = room-then kind h.room room;
     }
 
 -- an entry has bytes

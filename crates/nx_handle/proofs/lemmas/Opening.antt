@@ -1,5 +1,5 @@
 -- What opening and setting a moment answer.
-use Rattle.std.proofs.Common.{◌≡◌, ◌≢◌, ◌<◌, ◌≤◌, inl, inr, ℕ, zero, suc, Bool, true, false, List, [], length, map, slice_get, Some, arith, refl, sym, ap, ◌∙◌, subst}
+use Rattle.std.proofs.Common.{◌≡◌, ◌<◌, ◌≤◌, inl, inr, ℕ, zero, suc, true, List, [], length, map, slice_get, Some, arith, refl, sym, ap, ◌∙◌, subst}
 use Rattle.std.proofs.lemmas.Bool.{cases_lt}
 use Rattle.std.proofs.lemmas.Grind.{common_steps}
 use Rattle.nx_fec.specs.declared.air_files.channel.Channel.TheVariants.{Zero, One, Two}
@@ -21,7 +21,7 @@ use Rattle.nx_handle.specs.private.Opening.{HaveBegun, ShutSame, moment_told}
 use Rattle.nx_handle.proofs.lemmas.Heard.{moment-in}
 use Rattle.nx_handle.proofs.lemmas.Moments.{moments-shut}
 use Rattle.nx_handle.proofs.lemmas.New.{all-new, room-stays}
-use Rattle.nx_handle.proofs.lemmas.Places.{closed-again, long-kept, room-kept, same-list, shut-same, some-is, there, within}
+use Rattle.nx_handle.proofs.lemmas.Places.{closed-again, long-kept, room-kept, rooms-same, same-list, some-is, there, within}
 use Rattle.nx_handle.proofs.lemmas.Status.{moment-done, moment-not-done, moment-refused}
 
 -- ---- opening
@@ -59,8 +59,8 @@ opens kind laws moment old begun new closed some h same m =
           (room-stays kind held old begun keeps room) h);
       refused = λ no. absurd (no refl);
       channels = m.channels ∙ long;
-      rooms = room-kept kind laws begun new
-          (moments-shut kind moment begun new (length begun) m) ∙ keeps;
+      rooms = room-kept kind laws old new
+          (moments-shut kind moment begun new (length begun) m ∙ same);
     }
 
 pub opens-not : {P : Type 0} (kind : PlaceKind P) → IsPlaceKind kind → (moment answer : ℕ)
@@ -79,7 +79,7 @@ opens-not kind laws moment answer old begun mid end fault closed h same r told s
       done = λ e. absurd (moment-not-done fault (sym told ∙ e));
       refused = λ _. is;
       channels = ap length is;
-      rooms = ap (map kind.families) is;
+      rooms = rooms-same kind is;
     }
 
 -- ---- a moment

@@ -7,7 +7,7 @@ use Rattle.std.proofs.lemmas.List.{length-map}
 use Rattle.nx_fec.specs.air_files.Channels.{channel_number, same_channel}
 use Rattle.nx_fec.specs.declared.air_files.channel.Channel.{Channel}
 use Rattle.nx_fec.specs.declared.air_files.channel.Channel.TheVariants.{Zero, One, Two}
-use Rattle.nx_handle.specs.PlaceKinds.{IsPlaceKind, PlaceKind}
+use Rattle.nx_handle.specs.PlaceKinds.{IsPlaceKind, PlaceKind, SameRoom}
 use Rattle.nx_handle.specs.Places.{KeepsRoom, all_closed}
 use Rattle.nx_handle.specs.private.Opening.{ShutSame}
 
@@ -131,17 +131,44 @@ closed-shut kind laws (x ∷ xs) e =
     (laws.closed_shut x (and-left (kind.is_closed x) (all_closed kind xs) e))
     (closed-shut kind laws xs (and-right (kind.is_closed x) (all_closed kind xs) e))
 
-shut-room : {P : Type 0} (kind : PlaceKind P) → IsPlaceKind kind → (places : List P)
-    → map kind.families (map kind.shut places) ≡ map kind.families places
-shut-room kind laws [] = refl
-shut-room kind laws (x ∷ xs) =
-    ap₂ (λ a rest. a ∷ rest) (laws.shut_room x) (shut-room kind laws xs)
+-- where a function of a place stays the same once it is shut, it does of places
+shut-keeps : {P Y : Type 0} (kind : PlaceKind P) (f : P → Y)
+    → ((place : P) → f (kind.shut place) ≡ f place) → (places : List P)
+    → map f (map kind.shut places) ≡ map f places
+shut-keeps kind f same [] = refl
+shut-keeps kind f same (x ∷ xs) =
+    ap₂ (λ a rest. a ∷ rest) (same x) (shut-keeps kind f same xs)
 
 -- places that are the same ones once they are closed have the same room, and are as many
 pub room-kept : {P : Type 0} (kind : PlaceKind P) → IsPlaceKind kind → (old new : List P)
     → ShutSame kind old new → KeepsRoom kind old new
-room-kept kind laws old new same =
-    sym (shut-room kind laws new) ∙ ap (map kind.families) same ∙ shut-room kind laws old
+room-kept kind laws old new same = record {
+  families = sym (shut-keeps kind kind.families (λ p. (laws.shut_room p).families) new)
+      ∙ ap (map kind.families) same
+      ∙ shut-keeps kind kind.families (λ p. (laws.shut_room p).families) old;
+  vacant = sym (shut-keeps kind kind.vacant (λ p. (laws.shut_room p).vacant) new)
+      ∙ ap (map kind.vacant) same
+      ∙ shut-keeps kind kind.vacant (λ p. (laws.shut_room p).vacant) old;
+}
+
+pub rooms-same : {P : Type 0} (kind : PlaceKind P) {old new : List P} → new ≡ old
+    → KeepsRoom kind old new
+rooms-same kind is =
+    record { families = ap (map kind.families) is; vacant = ap (map kind.vacant) is }
+
+pub rooms-then : {P : Type 0} (kind : PlaceKind P) {old mid new : List P}
+    → KeepsRoom kind old mid → KeepsRoom kind mid new → KeepsRoom kind old new
+rooms-then kind first then = record {
+  families = then.families ∙ first.families;
+  vacant = then.vacant ∙ first.vacant;
+}
+
+pub room-then : {P : Type 0} (kind : PlaceKind P) {old mid new : P}
+    → SameRoom kind old mid → SameRoom kind mid new → SameRoom kind old new
+room-then kind first then = record {
+  families = then.families ∙ first.families;
+  vacant = then.vacant ∙ first.vacant;
+}
 
 pub long-kept : {P : Type 0} (kind : PlaceKind P) (old new : List P) → ShutSame kind old new
     → length new ≡ length old
@@ -197,6 +224,15 @@ set-map f [] k x y e is = refl
 set-map f (z ∷ zs) zero x y e is =
     ap (λ a. a ∷ map f zs) (is ∙ sym (ap f (some-is e)))
 set-map f (z ∷ zs) (suc k) x y e is = ap (λ rest. f z ∷ rest) (set-map f zs k x y e is)
+
+-- another place there, which has the same room
+pub room-set : {P : Type 0} (kind : PlaceKind P) (places : List P) (k : ℕ) (after was : P)
+    → slice_get places k ≡ Some was → SameRoom kind was after
+    → KeepsRoom kind places (slice_set places k after)
+room-set kind places k after was e room = record {
+  families = set-map kind.families places k after was e room.families;
+  vacant = set-map kind.vacant places k after was e room.vacant;
+}
 
 -- ---- channels
 

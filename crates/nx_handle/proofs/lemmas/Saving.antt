@@ -19,7 +19,7 @@ use Rattle.nx_handle.specs.private.Saving.{IsFirstLine, RefusesEnd, StandsNext}
 use Rattle.nx_handle.specs.Status.{number_of}
 use Rattle.std.specs.FinSet as set
 use Rattle.nx_handle.specs.private.Opening.{ShutSame}
-use Rattle.nx_handle.proofs.lemmas.Places.{closed-again, long-kept, room-kept}
+use Rattle.nx_handle.proofs.lemmas.Places.{closed-again, long-kept, room-kept, rooms-same}
 use Rattle.nx_handle.specs.declared.status.Status.{Status}
 use Rattle.nx_handle.specs.declared.status.Status.TheVariants as status
 use Rattle.std.specs.Prelude.{Err, Ok, slice_index_or}
@@ -116,7 +116,7 @@ opens-not kind laws bytes old mid new why answer closed refuses e same shut =
       opens = subst (λ o. OpensFromBy kind o bytes old new answer) (sym closed)
           (inr (why, refuses, e, is));
       channels = ap length is;
-      rooms = ap (map kind.families) is;
+      rooms = rooms-same kind is;
     }
 
 -- ---- what is saved of channels

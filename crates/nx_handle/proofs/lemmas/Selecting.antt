@@ -1,29 +1,28 @@
 -- What selecting answers.
-use Rattle.std.proofs.Common.{◌≡◌, ◌<◌, ◌≤◌, ℕ, Bool, true, false, not, nat_lt, IsTrue, if◌then◌else◌, List, length, map, slice_set, refl, sym, ap, ◌∙◌, subst, Some, arith}
+use Rattle.std.proofs.Common.{◌≡◌, ◌<◌, ◌≤◌, ℕ, Bool, true, false, IsTrue, if◌then◌else◌, List, length, slice_set, refl, sym, ap, ◌∙◌, subst, Some, arith}
 use Rattle.std.proofs.lemmas.Grind.{common_steps}
 use Rattle.nx_fec.specs.air_files.Channels.{channel_number}
 use Rattle.nx_fec.specs.declared.air_files.channel.Channel.{Channel}
 use Rattle.nx_copies.specs.Events as events
 use Rattle.nx_copies.specs.Events.{Command}
 use Rattle.nx_receiver.specs.declared.command.Command.{Command as TheCommand}
-use Rattle.nx_copies.specs.copies.Shares.{Given, MarkedCopy, Starts}
 use Rattle.nx_receiver.specs.Listener.{then_command}
 use Rattle.nx_handle.specs.Life.{HasHeard}
-use Rattle.nx_handle.specs.PlaceKinds.{IsPlaceKind, PlaceKind, TakesEventIn}
-use Rattle.nx_handle.specs.Places.{all_hear, place_on}
+use Rattle.nx_handle.specs.PlaceKinds.{IsPlaceKind, PlaceKind, SameRoom, TakesEventIn}
+use Rattle.nx_handle.specs.Places.{KeepsRoom, all_hear, place_on}
 use Rattle.nx_handle.specs.Selecting.{AnswersSelecting, byte_status, command_status, selecting_status}
 use Rattle.nx_handle.specs.Status.{number_of}
 use Rattle.nx_handle.specs.declared.status.Status.{Status}
 use Rattle.nx_handle.specs.declared.status.Status.TheVariants.{Done, NoChannel, Vital}
 use Rattle.nx_handle.proofs.lemmas.Heard.{command-in}
-use Rattle.nx_handle.proofs.lemmas.Places.{all-set, set-long, set-map, within}
+use Rattle.nx_handle.proofs.lemmas.Places.{all-set, room-set, rooms-same, set-long, within}
 
 pub selecting-done : {P : Type 0} (kind : PlaceKind P) → IsPlaceKind kind → (asked : Status)
     (c : Command) (channel : Channel) (old new : List P) (r after : P)
     → all_hear kind old ≡ true → place_on old channel ≡ Some r
     → new ≡ slice_set old (channel_number channel) after → asked ≡ Done
     → TakesEventIn kind r after (events.command c) → kind.is_hearing after ≡ true
-    → kind.families after ≡ kind.families r
+    → SameRoom kind r after
     → AnswersSelecting kind asked c (channel_number channel) old new 0
 selecting-done kind laws asked c channel old new r after hear at is done takes now room =
     let n = channel_number channel in record {
@@ -41,7 +40,7 @@ selecting-done kind laws asked c channel old new r after hear at is done takes n
       };
       refused = λ no. absurd (no refl);
       channels = ap length is ∙ set-long old n after;
-      rooms = ap (map kind.families) is ∙ set-map kind.families old n after r at room;
+      rooms = subst (KeepsRoom kind old) (sym is) (room-set kind old n after r at room);
     }
 
 -- a command that isn't done leaves all as it was
@@ -54,7 +53,7 @@ selecting-refused kind asked c channel answer old new cause fails same = record 
   done = λ e. absurd (fails e);
   refused = λ _. same;
   channels = ap length same;
-  rooms = ap (map kind.families) same;
+  rooms = rooms-same kind same;
 }
 
 not-vital : (vital : Bool) → (IsTrue vital → IsTrue false)

@@ -1,16 +1,16 @@
 -- A place that combines meets the laws of a kind.
-use Rattle.std.specs.Prelude.{◌≡◌, ℕ, Bool, true, false, List, [], ◌∷◌, ◌++◌, length}
+use Rattle.std.specs.Prelude.{◌≡◌, ℕ, true, false, List, [], ◌∷◌, ◌++◌, length}
 use Rattle.std.proofs.Common.{refl, sym, ap}
 use Rattle.nx_copies.specs.Events.{Event, Start, at_moment, first_setting, setting_after_all}
 use Rattle.nx_copies.specs.copies.FoundCopies.{TaggedCopy}
-use Rattle.nx_receiver.specs.ChannelReceiver.{IsReceiver, TakesEventBy}
+use Rattle.nx_receiver.specs.ChannelReceiver.{IsReceiver}
 use Rattle.nx_combine.specs.CombinedPrinting.{combined_holding}
 use Rattle.nx_combine.specs.CombinedReceiver.{receiver_in}
 use Rattle.nx_combine.specs.FamilyPlaces.{LentFamily, held_in}
 use Rattle.nx_combine.specs.private.CombiningLaws.{combining-receiver}
 use Rattle.nx_combine.proofs.lemmas.Silent.{silent-end, starting_with, with_moment}
 use Rattle.nx_combine.proofs.lemmas.Silent as silent
-use Rattle.nx_handle.specs.CombiningPlaces.{CombiningPlaceView, StandsLent, combining_closed}
+use Rattle.nx_handle.specs.CombiningPlaces.{StandsLent}
 use Rattle.nx_handle.specs.CombiningPlaces.{combining_place, combining_start, state_closed}
 use Rattle.nx_handle.specs.CombiningPlaces.{state_hears}
 use Rattle.nx_handle.specs.PlaceKinds.{IsPlaceKind, receiver_of}
@@ -84,8 +84,8 @@ takes-moment held lent (Hears r) n start history log s =
     (s.0, silent.takes-moment held_in held content r lent n start history log s.1)
 takes-moment held lent Ended n start history log s = absurd s
 
-module _ {F : Type 0} (places : F → List LentFamily) where
-  is-receiver : (held : ℕ) → IsReceiver (receiver_of (combining_place places) held)
+module _ {F : Type 0} (places : F → List LentFamily) (vacant : F → F) where
+  is-receiver : (held : ℕ) → IsReceiver (receiver_of (combining_place places vacant) held)
   is-receiver held = record {
     printing = (combining-receiver held content).printing;
     prints = λ start place events log s.
@@ -94,7 +94,7 @@ module _ {F : Type 0} (places : F → List LentFamily) where
         in-force held start (places place.families) place.state events log s;
   }
 
-  pub combining-laws : IsPlaceKind (combining_place places)
+  pub combining-laws : IsPlaceKind (combining_place places vacant)
   combining-laws = record {
     receiver = is-receiver;
     hears = λ held start place events log s.
@@ -103,7 +103,7 @@ module _ {F : Type 0} (places : F → List LentFamily) where
         has-room held start (places place.families) place.state events log s;
     is_open = λ place h. is-open place.state h;
     shut_closed = λ place. refl;
-    shut_room = λ place. refl;
+    shut_room = λ place. record { families = refl; vacant = refl };
     closed_shut = λ place h.
         ap (λ state. record { state = state; families = place.families })
         (closed-is place.state h);

@@ -10,7 +10,7 @@ use Rattle.nx_copies.specs.copies.Shares.{MarkedCopy, marked}
 use Rattle.nx_receiver.specs.ChannelReceiver.{HandsOutNoneBeforeBy}
 use Rattle.nx_handle.specs.CallerRoom.{IsCopiedOut, Room}
 use Rattle.nx_handle.specs.Hearing.{elements_of, longest_entry}
-use Rattle.nx_handle.specs.PlaceKinds.{PlaceKind, receiver_of}
+use Rattle.nx_handle.specs.PlaceKinds.{PlaceKind, SameRoom, receiver_of}
 
 -- the entry of a copy is copied into the room
 pub record CopiesEntryOut (copy : MarkedCopy) (log : Room) : Type 0 where
@@ -33,7 +33,7 @@ pub record HearsOn {P : Type 0} (kind : PlaceKind P) (channel : Channel) (old ne
       → kind.stands held start new (history ++ events.elements bits) (log ++ next)
   pub first : (held : ℕ) → HandsOutNoneBeforeBy (receiver_of kind held) old bits (length bits)
   pub now : kind.is_hearing new ≡ true
-  pub room : kind.families new ≡ kind.families old
+  pub room : SameRoom kind old new
 
 -- So many of the elements of these bytes are heard so, and the entry of the copy that they print is
 -- copied into the room; all, where nothing is printed.

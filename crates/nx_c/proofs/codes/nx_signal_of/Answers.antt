@@ -1,4 +1,3 @@
-use Rattle.std.proofs.Common.{rules}
 use Rattle.std.proofs.Common.{◌<◌, subst}
 use Rattle.nx_c.proofs.lemmas.Signal.{number-lt}
 use Rattle.nx_c.proofs.codes.nx_signal_of.Goals as goal

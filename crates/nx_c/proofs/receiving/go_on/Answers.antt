@@ -1,4 +1,3 @@
-use Rattle.std.proofs.Common.{rules}
 use Rattle.std.proofs.Common.{Ok, ap, sym, ◌∙◌}
 use Rattle.nx_fec.specs.Transfers.{whole_input}
 use Rattle.nx_receiver.proofs.lemmas.listening.Once.{printed-once}

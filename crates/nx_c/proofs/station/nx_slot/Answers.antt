@@ -1,4 +1,3 @@
-use Rattle.std.proofs.Common.{rules}
 use Rattle.std.proofs.Common.{inr, refl, subst}
 use Rattle.nx_station.specs.Slots.{HasNoSlot}
 use Rattle.nx_c.proofs.station.nx_slot.Goals as goal

@@ -1,4 +1,4 @@
-use Rattle.std.proofs.Common.{refl, sym, ap, ◌∙◌}
+use Rattle.std.proofs.Common.{not, refl, sym, ap, ◌∙◌}
 use Rattle.nx_envelope.specs.Copies.{errors_of}
 use Rattle.nx_copies.specs.copies.FoundCopies.{headed_copy}
 use Rattle.nx_combine.specs.Families.{given_by}
@@ -30,3 +30,21 @@ pub returns-else-is_better-clause-errors : goal.returns-else-is_better-clause-er
 returns-else-is_better-clause-errors c = λ positions identity read.
     let g = gives c.args.finder.now identity positions c.in-Some.found read c.in-Some.ensures.head in
     g.errors ∙ ap errors_of (sym read.text)
+
+pub returns-then-is_better-clause-given : goal.returns-then-is_better-clause-given
+returns-then-is_better-clause-given c = λ positions identity text selected read errors.
+    let copy = headed_copy c.args.head.now text selected in
+    let g = gives c.args.finder.now identity positions c.in-Some.found read c.in-Some.ensures.head in
+    ap not (sym c.if-is_better.true
+    ∙ c.is_better.ensures copy (given_by positions copy) refl errors
+    (how_given positions copy ∙ sym g.how)
+    (g.errors ∙ ap errors_of (sym (text_given positions copy))))
+
+pub returns-else-is_better-clause-given : goal.returns-else-is_better-clause-given
+returns-else-is_better-clause-given c = λ positions identity text selected read errors.
+    let copy = headed_copy c.args.head.now text selected in
+    let g = gives c.args.finder.now identity positions c.in-Some.found read c.in-Some.ensures.head in
+    ap not (sym c.if-is_better.false
+    ∙ c.is_better.ensures copy (given_by positions copy) refl errors
+    (how_given positions copy ∙ sym g.how)
+    (g.errors ∙ ap errors_of (sym (text_given positions copy))))

@@ -285,7 +285,7 @@ combined-moment positions copy = go (is_better copy (given_by positions copy))
     go false = refl
 
 joined-moment : (heard : HeardCopy) (number : ℕ) (o : Option Family)
-    → (option_map_or (λ family. together number (joined_by heard family).positions heard) o
+    → (option_map_or (λ family. together number (joined_by heard family) heard) o
     (alone None heard)).copy.moment ≡ heard.copy.moment
 joined-moment heard number None = refl
 joined-moment heard number (Some family) =

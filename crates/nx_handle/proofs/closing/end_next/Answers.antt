@@ -1,4 +1,4 @@
-use Rattle.std.proofs.Common.{◌≡◌, ◌<◌, ◌∙◌, [], ◌∷◌, ap, arith, get_or, length, map, slice_set, subst, sym}
+use Rattle.std.proofs.Common.{◌≡◌, ◌<◌, ◌∙◌, [], ◌∷◌, ap, arith, get_or, length, slice_set, subst, sym}
 use Rattle.std.proofs.lemmas.Option.{slice_get-get_or}
 use Rattle.nx_fec.specs.air_files.Channels.{channel_number}
 use Rattle.nx_copies.specs.copies.Shares.{marked}
@@ -6,7 +6,7 @@ use Rattle.nx_handle.specs.CallerRoom.{room}
 use Rattle.nx_handle.specs.private.Hearing.{CopiesEntryOut}
 use Rattle.nx_handle.specs.Life.{EndsWith}
 use Rattle.nx_handle.proofs.lemmas.Closing.{all-gone, ended-more, printed-first, silent-first}
-use Rattle.nx_handle.proofs.lemmas.Places.{not-all, read-at, set-here, set-long, set-map}
+use Rattle.nx_handle.proofs.lemmas.Places.{not-all, read-at, room-set, rooms-then, set-here, set-long}
 use Rattle.nx_handle.proofs.closing.end_next.Goals as goal
 
 pub returns-then-end_at-clause-printed : goal.returns-then-end_at-clause-printed
@@ -53,10 +53,9 @@ returns-then-end_at-clause-rooms g c =
     let at = c.loop-at.at in
     let has : at < length places =
     omega (arith, c.loop-at-test.true, c.loop-at.invariant.channels) in
-    set-map kind.families places at c.end_at.new.place
-    (get_or places at c.index-places-at.result)
-    (slice_get-get_or places at c.index-places-at.result has) c.end_at.ensures.room
-    ∙ c.loop-at.invariant.rooms
+    rooms-then kind c.loop-at.invariant.rooms
+    (room-set kind places at c.end_at.new.place (get_or places at c.index-places-at.result)
+    (slice_get-get_or places at c.index-places-at.result has) c.end_at.ensures.room)
 
 pub loop-at-preserved : goal.loop-at-preserved
 loop-at-preserved g c =
@@ -73,9 +72,9 @@ loop-at-preserved g c =
     ap (λ n. slice_set places n place) (sym c.channel_at.ensures) in
     record {
       channels = set-long places at place ∙ inv.channels;
-      rooms = set-map kind.families places at place was
-          (slice_get-get_or places at c.index-places-at.result has) c.end_at.ensures.room
-          ∙ inv.rooms;
+      rooms = rooms-then kind inv.rooms
+          (room-set kind places at place was
+          (slice_get-get_or places at c.index-places-at.result has) c.end_at.ensures.room);
       same_log = silent.1 ∙ inv.same_log;
       ended = ended-more kind places at place has
           (record { silent = c.end_at.ensures.ended.0; still = c.end_at.ensures.ended.1 })

@@ -1,4 +1,4 @@
-use Rattle.std.proofs.Common.{◌≡◌, ◌∙◌, drop, length}
+use Rattle.std.proofs.Common.{◌∙◌, drop, length}
 use Rattle.nx_combine.specs.CombinedReceiver.{text_over}
 use Rattle.nx_receiver.proofs.lemmas.receiver.Given.{no_head}
 use Rattle.nx_handle.proofs.lemmas.Combining.{fed-finished, fed-more, finished-in, heard-printed, heard-quietly}
@@ -42,7 +42,7 @@ returns-then-is_some-clause-hears g c =
     c.finish-head.result fed c.in-Some.is
     (finished-in (length old) lent new call.new.self last c.in-Some.over c.finish-head.result
     inv.room
-    (λ start history log a. c.finish-head.ensures.stands start history log a))
+    (λ start history log a. c.finish-head.ensures.finishes.stands start history log a))
 
 -- none is
 pub loop-heard-preserved : goal.loop-heard-preserved
@@ -61,14 +61,15 @@ loop-heard-preserved g c =
     (λ room start history log s. call.ensures.stands room start history log s)
     (λ room start history log s k lt. call.ensures.first room start history log s k lt) in
     record {
-      fits = c.finish-head.ensures.fits;
-      room = c.finish-head.ensures.room ∙ inv.room;
+      fits = c.finish-head.ensures.finishes.fits;
+      room = c.finish-head.ensures.finishes.room ∙ inv.room;
+      stays = c.finish-head.ensures.stays ∙ inv.stays;
       fed = fed-finished (length old) old lent new c.args.receiver.now c.loop-heard.receiver
           call.new.self last (drop c.args.from c.args.packed.now) c.loop-heard.heard n
           call.result.1 c.in-Some.over c.finish-head.result fed c.in-Some.is
           (finished-in (length old) lent new call.new.self last c.in-Some.over
           c.finish-head.result inv.room
-          (λ start history log a. c.finish-head.ensures.stands start history log a))
+          (λ start history log a. c.finish-head.ensures.finishes.stands start history log a))
           (no_head c.finish-head.result (text_over last) c.is_some.result c.is_some.ensures
           c.if-is_some.false);
     }

@@ -9,6 +9,7 @@ invariant-loop-heard g l = record {
   fits : BelongsTo l.receiver.store (g.F.FamilyRoom.places l.families);
   room : length (g.F.FamilyRoom.places l.families)
       ≡ length (g.F.FamilyRoom.places l.fn.families);
+  stays : g.F.FamilyRoom.vacant l.families ≡ g.F.FamilyRoom.vacant l.fn.families;
   fed : FedIn (length (g.F.FamilyRoom.places l.fn.families))
       (g.F.FamilyRoom.places l.fn.families) (g.F.FamilyRoom.places l.families) l.fn.receiver
       l.receiver (drop l.from l.packed) l.heard;

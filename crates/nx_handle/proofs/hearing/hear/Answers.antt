@@ -1,10 +1,10 @@
-use Rattle.std.proofs.Common.{◌≡◌, ◌<◌, ◌∙◌, ap, arith, get_or, length, map, refl, slice_set, subst, sym, take, true}
+use Rattle.std.proofs.Common.{◌≡◌, ◌<◌, ◌∙◌, ap, arith, get_or, length, refl, slice_set, subst, sym, take, true}
 use Rattle.nx_fec.specs.air_files.Channels.{channel_number}
 use Rattle.nx_handle.specs.Hearing.{HearsElements, elements_of, hearing_status}
-use Rattle.nx_handle.specs.Places.{all_hear}
+use Rattle.nx_handle.specs.Places.{KeepsRoom, all_hear}
 use Rattle.nx_handle.specs.Status.{number_of}
 use Rattle.nx_handle.proofs.lemmas.Heard.{elements-in}
-use Rattle.nx_handle.proofs.lemmas.Places.{all-set, each-is, read-at, set-long, set-map}
+use Rattle.nx_handle.proofs.lemmas.Places.{all-set, each-is, read-at, room-set, set-long}
 use Rattle.nx_handle.proofs.hearing.hear.Goals as goal
 
 pub hear_all-requires : goal.hear_all-requires
@@ -55,6 +55,6 @@ returns g c =
       };
       refused = λ no. absurd (no refl);
       channels = set-long old c.from.result place;
-      rooms = ap (map kind.families) new
-          ∙ set-map kind.families old (channel_number on) place was at out.hears.room;
+      rooms = subst (KeepsRoom kind old) (sym new)
+          (room-set kind old (channel_number on) place was at out.hears.room);
     }

@@ -1,4 +1,4 @@
-use Rattle.std.proofs.Common.{◌≡◌, ◌<◌, ◌∙◌, [], arith, get_or, length}
+use Rattle.std.proofs.Common.{◌<◌, ◌∙◌, [], arith, get_or, length}
 use Rattle.std.proofs.lemmas.Option.{slice_get-get_or}
 use Rattle.nx_copies.specs.Events.{none_refused}
 use Rattle.nx_handle.specs.PlaceKinds.{start_with}
@@ -28,6 +28,9 @@ pub returns-clause-begun : goal.returns-clause-begun
 returns-clause-begun g c =
     let kind = g.P.KeptPlace.kind in
     all-begin kind c.loop-at.places (start_with [] 0 none_refused) c.loop-at.at
-    (omega (arith, c.loop-at-test.false,
-    long-kept kind c.args.places.now c.loop-at.places c.loop-at.invariant.same))
+    (omega (
+      arith,
+      c.loop-at-test.false,
+      long-kept kind c.args.places.now c.loop-at.places c.loop-at.invariant.same,
+    ))
     c.loop-at.invariant.begun

@@ -1,32 +1,47 @@
-use Rattle.std.proofs.Common.{◌≡◌, ◌∙◌, None, subst, sym}
-use Rattle.nx_handle.specs.Opening.{AnswersOpening}
-use Rattle.nx_c.specs.Opening.{OpensInBlock, three_closed}
-use Rattle.nx_c.proofs.lemmas.Opening.{is-none, opens, opens-not}
+use Rattle.std.proofs.Common.{◌≡◌, ◌≤◌, ◌∙◌, None, List, subst, sym, true, arith}
+use Rattle.nx_combine.specs.Families.{most_families}
+use Rattle.nx_handle.specs.Opening.{AnswersOpening, opening_status}
+use Rattle.nx_handle.specs.PlainPlaces.{plain_place}
+use Rattle.nx_handle.specs.declared.plain_place.PlainPlace.{PlainPlace}
+use Rattle.nx_handle.specs.declared.status.Status.TheVariants.{Done}
+use Rattle.nx_c.specs.ByKind.{three_closed}
+use Rattle.nx_c.specs.Opening.{IsReady, OpensAt}
+use Rattle.nx_c.proofs.lemmas.Opening.{is-none, lacks, opens, status-done}
 use Rattle.nx_c.proofs.receiver.calls.nx_open.Goals as goal
+
+pub returns-in_default : goal.returns-in_default
+returns-in_default c =
+    let none : c.args.receiver.now.value ≡ None =
+    is-none c.args.receiver.now.value c.is_open.result c.is_open.ensures.open
+    c.if-is_open.false in
+    let few : c.args.families ≤ most_families = omega (arith, c.if-families-gt-MAX_FAMILIES.false) in
+    let closed = c.closed_places.ensures in
+    let told : AnswersOpening plain_place c.args.moment three_closed c.open.new.places c.open.result =
+    subst (λ (p : List PlainPlace). AnswersOpening plain_place c.args.moment p c.open.new.places
+    c.open.result) closed c.open.ensures in
+    subst (λ o. OpensAt c.args.moment c.args.families o c.is_open.new.self.value
+    c.without_memory.result) (sym none)
+    (lacks (λ P kind old new. AnswersOpening kind c.args.moment old new c.without_memory.result)
+    (opening_status true c.args.moment ≡ Done) c.args.families c.is_open.new.self.value
+    c.open.result c.without_memory.result few c.without_memory.ensures.done
+    c.without_memory.ensures.refused
+    (λ done. status-done c.args.moment (sym done ∙ told.cause))
+    (λ no same. subst (λ n. AnswersOpening plain_place c.args.moment three_closed three_closed n)
+    (sym same)
+    (subst (λ (p : List PlainPlace). AnswersOpening plain_place c.args.moment three_closed p
+    c.open.result) (told.refused no) told))
+    (c.is_open.ensures.unchanged ∙ none))
 
 pub returns-then-status-number : goal.returns-then-status-number
 returns-then-status-number c =
     let none : c.args.receiver.now.value ≡ None =
     is-none c.args.receiver.now.value c.is_open.result c.is_open.ensures.open
     c.if-is_open.false in
-    let done : c.open-status.result ≡ 0 = c.if-status-number.true ∙ c.number-2.ensures in
-    subst (λ o. OpensInBlock c.args.moment o c.open_with.new.self.value
-    c.open_with.result) (sym none)
-    (opens c.args.moment (record { places = c.open-status.new.places })
-    c.open_with.new.self.value c.open_with.result
-    (subst (λ n. AnswersOpening c.args.moment three_closed c.open-status.new.places n) done
-    c.open-status.ensures) c.open_with.ensures.done
-    (λ e. let why = c.open_with.ensures.refused e in
-    (why.0, why.1 ∙ c.is_open.ensures.unchanged ∙ none)))
-
-pub returns : goal.returns
-returns c =
-    let none : c.args.receiver.now.value ≡ None =
-    is-none c.args.receiver.now.value c.is_open.result c.is_open.ensures.open
-    c.if-is_open.false in
-    subst (λ o. OpensInBlock c.args.moment o c.is_open.new.self.value
+    let few : c.args.families ≤ most_families = omega (arith, c.if-families-gt-MAX_FAMILIES.false) in
+    subst (λ o. OpensAt c.args.moment c.args.families o c.hold.new.self.value
     c.open-status.result) (sym none)
-    (opens-not c.args.moment c.open-status.new.places c.is_open.new.self.value
-    c.open-status.result c.open-status.ensures
-    (λ e. c.if-status-number.false (e ∙ sym c.number-2.ensures))
-    (c.is_open.ensures.unchanged ∙ none))
+    (opens (λ P kind old new. AnswersOpening kind c.args.moment old new c.open-status.result)
+    (opening_status true c.args.moment ≡ Done) c.args.families c.hold.new.self.value
+    c.open-status.result c.deref_mut.result.now c.open-status.new.self few
+    (subst (IsReady c.args.families) (sym c.deref_mut.ensures.value) c.in-Ok.ensures)
+    c.open-status.ensures (c.if-status-number.true ∙ c.number-2.ensures) c.hold.ensures)

@@ -1,10 +1,12 @@
-use Rattle.std.proofs.Common.{◌≡◌, ◌<◌, ℕ, length, Option, Some, None, refl, sym, ap, ◌∙◌}
-use Rattle.std.proofs.Common.{subst}
+use Rattle.std.proofs.Common.{◌≡◌, ◌<◌, ℕ, false, if◌then◌else◌, length, take, List, Option, Some}
+use Rattle.std.proofs.Common.{None, refl, sym, ap, ◌∙◌, subst}
+use Rattle.std.specs.Prelude.{slice_get}
 use Rattle.circular_buffer.proofs.Places.{slice_get-some}
 use Rattle.nx_combine.specs.Combining.{heard_of}
-use Rattle.nx_combine.specs.Families.{joined_by}
-use Rattle.nx_combine.proofs.lemmas.Combine.{answers_begun, answers_joined, answers_none}
-use Rattle.nx_combine.proofs.lemmas.Combine.{joined_at-length}
+use Rattle.nx_combine.specs.Families.{Family, joined_by}
+use Rattle.nx_combine.proofs.lemmas.Combine.{Answers, answers_begun, answers_joined, answers_none}
+use Rattle.nx_combine.proofs.lemmas.Combine.{joined_at-length, joined_at-there, sendings_by}
+use Rattle.nx_combine.proofs.combiner.Combiner.combine.Given.{Over}
 use Rattle.nx_combine.proofs.combiner.Combiner.combine.Goals as goal
 
 none_if : (o : Option ℕ) → ((x : ℕ) → o ≡ Some x → ⊥) → o ≡ None
@@ -51,43 +53,49 @@ returns-in_default-clause-combined g c = λ families stands.
     ∙ none_if c.index_joined.result c.in_default.not-Some)
     (c.begin.ensures.begun c.args.text.now c.args.selected)).combined
 
-pub returns-clause-after : goal.returns-clause-after
-returns-clause-after g c = λ families stands.
+-- what is answered where the copy joined a family
+joined_so : (g : Over) (c : goal.After-sendings_of-sendings g) (families : List Family)
+    → (g.S.HoldsFamilies.held c.args.self.now.store c.args.places.now).families
+    ≡ take (g.S.HoldsFamilies.most c.args.places.now) families
+    → Answers (g.S.HoldsFamilies.most c.args.places.now) families
+    (g.S.HoldsFamilies.held c.join_at.new.self.store c.join_at.new.places).families
+    (heard_of c.args.head.now c.args.text.now c.args.selected c.args.positions.now)
+    c.join_at.new.self.finder.text (Some c.in-Some.index) false c.given_in_place-given.result
+    c.sendings_of-sendings.result
+joined_so g c families stands =
     let most = g.S.HoldsFamilies.most c.args.places.now in
     let held = (g.S.HoldsFamilies.held c.args.self.now.store c.args.places.now).families in
     let now = (g.S.HoldsFamilies.held c.join_at.new.self.store c.join_at.new.places).families in
     let heard = heard_of c.args.head.now c.args.text.now c.args.selected c.args.positions.now in
     let identity = c.args.head.now.identity in
-    (answers_joined most families held now heard c.join_at.new.self.finder.text
-    c.in-Some.index c.given_in_place.result stands
+    let index = c.in-Some.index in
+    let given = c.given_in_place-given in
+    let joined = c.join_at.ensures.joined heard refl in
+    answers_joined most families held now heard c.join_at.new.self.finder.text index given.result
+    c.sendings_of-sendings.result stands
     (sym (c.has_family.ensures.has c.args.text.now) ∙ c.if-not-has_family.false)
-    (sym (c.in-Some.ensures.joined c.args.text.now c.args.selected))
-    (c.join_at.ensures.joined heard refl)
+    (sym (c.in-Some.ensures.joined c.args.text.now c.args.selected)) joined
     (λ family there.
-    let read = c.join_at.ensures.read heard family refl there in (
-      c.given_in_place.ensures.copy (joined_by heard family).positions identity
-          c.args.text.now c.args.selected read c.requires.errors,
-      c.given_in_place.ensures.errors (joined_by heard family).positions identity read,
-    ))).after
+    let after : Family = joined_by heard family in
+    let read = c.join_at.ensures.read heard family refl there in
+    let here : slice_get now index ≡ Some after =
+    ap (λ (l : List Family). slice_get l index) joined
+    ∙ joined_at-there held heard index family there in (
+      given.ensures.copy after.positions identity c.args.text.now c.args.selected read
+          c.requires.errors,
+      given.ensures.errors after.positions identity read,
+      sendings_by after heard.copy given.result c.sendings_of-sendings.result
+          (given.ensures.given after.positions identity c.args.text.now c.args.selected read
+          c.requires.errors)
+          (c.sendings_of-sendings.ensures after here
+          ∙ ap (λ b. if b then after.sendings else 1) c.is_some.ensures),
+    ))
+
+pub returns-clause-after : goal.returns-clause-after
+returns-clause-after g c = λ families stands. (joined_so g c families stands).after
 
 pub returns-clause-combined : goal.returns-clause-combined
-returns-clause-combined g c = λ families stands.
-    let most = g.S.HoldsFamilies.most c.args.places.now in
-    let held = (g.S.HoldsFamilies.held c.args.self.now.store c.args.places.now).families in
-    let now = (g.S.HoldsFamilies.held c.join_at.new.self.store c.join_at.new.places).families in
-    let heard = heard_of c.args.head.now c.args.text.now c.args.selected c.args.positions.now in
-    let identity = c.args.head.now.identity in
-    (answers_joined most families held now heard c.join_at.new.self.finder.text
-    c.in-Some.index c.given_in_place.result stands
-    (sym (c.has_family.ensures.has c.args.text.now) ∙ c.if-not-has_family.false)
-    (sym (c.in-Some.ensures.joined c.args.text.now c.args.selected))
-    (c.join_at.ensures.joined heard refl)
-    (λ family there.
-    let read = c.join_at.ensures.read heard family refl there in (
-      c.given_in_place.ensures.copy (joined_by heard family).positions identity
-          c.args.text.now c.args.selected read c.requires.errors,
-      c.given_in_place.ensures.errors (joined_by heard family).positions identity read,
-    ))).combined
+returns-clause-combined g c = λ families stands. (joined_so g c families stands).combined
 
 pub returns-then-not-has_family-clause-begins : goal.returns-then-not-has_family-clause-begins
 returns-then-not-has_family-clause-begins g c = λ families stands.
@@ -110,23 +118,16 @@ returns-in_default-clause-begins g c = λ families stands.
     (c.begin.ensures.begun c.args.text.now c.args.selected)).count
 
 pub returns-clause-begins : goal.returns-clause-begins
-returns-clause-begins g c = λ families stands.
-    let most = g.S.HoldsFamilies.most c.args.places.now in
+returns-clause-begins g c = λ families stands. (joined_so g c families stands).count
+
+pub sendings_of-sendings-requires-clause-there : goal.sendings_of-sendings-requires-clause-there
+sendings_of-sendings-requires-clause-there g c =
     let held = (g.S.HoldsFamilies.held c.args.self.now.store c.args.places.now).families in
-    let now = (g.S.HoldsFamilies.held c.join_at.new.self.store c.join_at.new.places).families in
     let heard = heard_of c.args.head.now c.args.text.now c.args.selected c.args.positions.now in
-    let identity = c.args.head.now.identity in
-    (answers_joined most families held now heard c.join_at.new.self.finder.text
-    c.in-Some.index c.given_in_place.result stands
-    (sym (c.has_family.ensures.has c.args.text.now) ∙ c.if-not-has_family.false)
-    (sym (c.in-Some.ensures.joined c.args.text.now c.args.selected))
-    (c.join_at.ensures.joined heard refl)
-    (λ family there.
-    let read = c.join_at.ensures.read heard family refl there in (
-      c.given_in_place.ensures.copy (joined_by heard family).positions identity
-          c.args.text.now c.args.selected read c.requires.errors,
-      c.given_in_place.ensures.errors (joined_by heard family).positions identity read,
-    ))).count
+    subst (λ n. c.in-Some.index < n)
+    (sym (ap length (c.join_at.ensures.joined heard refl)
+    ∙ joined_at-length held heard c.in-Some.index))
+    c.in-Some.ensures.within
 
 pub returns-clause-within : goal.returns-clause-within
 returns-clause-within g c =
@@ -146,5 +147,5 @@ returns-clause-errors g c =
     let heard = heard_of c.args.head.now c.args.text.now c.args.selected c.args.positions.now in
     let identity = c.args.head.now.identity in
     let there = slice_get-some held c.in-Some.index c.in-Some.ensures.within in
-    c.given_in_place.ensures.errors (joined_by heard there.0).positions identity
+    c.given_in_place-given.ensures.errors (joined_by heard there.0).positions identity
     (c.join_at.ensures.read heard there.0 refl there.1)

@@ -25,3 +25,10 @@ returns-clause-comes_to g c = λ families before heard is stands.
     c.args.text.now c.args.selected c.args.positions.now c.combine.new.self.finder.text
     c.combine.result is
     (c.combine.ensures.combined families stands.held)
+
+pub returns-clause-sendings : goal.returns-clause-sendings
+returns-clause-sendings g c = λ families before heard is stands.
+    let most = g.S.HoldsFamilies.most c.args.places.now in
+    sym (c.combine.ensures.combined families stands.held).sendings
+    ∙ (cut_same most families heard
+    (headed_copy c.args.head.now c.args.text.now c.args.selected) c.args.positions.now is).sendings

@@ -17,9 +17,10 @@ returns-clause-begun c = λ text selected.
       identity = head.identity;
       moment = head.moment;
       positions = c.args.positions.now;
+      sendings = 1;
     }) fits.first fits.taken c.place_before-at.ensures c.min-self.ensures
-    (family_is c.begin.new.self.family head.identity head.moment c.args.positions.now begun.identity
-    begun.moment begun.positions)
+    (family_is c.begin.new.self.family head.identity head.moment c.args.positions.now 1
+    begun.identity begun.moment begun.positions begun.sendings)
 
 pub returns-clause-printed : goal.returns-clause-printed
 returns-clause-printed c =

@@ -1,4 +1,4 @@
-use Rattle.std.proofs.Common.{◌≡◌, ◌∙◌, ap₂, false, sym}
+use Rattle.std.proofs.Common.{◌≡◌, ◌∙◌, ap₂, false, refl, sym}
 use Rattle.nx_copies.specs.Events.{first_setting}
 use Rattle.nx_copies.specs.hearing.CopyHearing.{in_force}
 use Rattle.nx_combine.specs.CombinedReceiver.{CombiningReceiver, hearer_in}
@@ -19,6 +19,7 @@ returns-clause-stands g c = λ places start families printed entries moment sele
       taker = taker.result;
       combiner = combiner_of here c.new.result;
       is_given = false;
+      sendings = 0;
       memory = c.args.memory;
     } in
     let force : in_force (hearer_in receiver) ≡ first_setting start =
@@ -26,5 +27,5 @@ returns-clause-stands g c = λ places start families printed entries moment sele
     (taker.ensures.selection ∙ sym selection) in
     begins_together most content start receiver
     (taker.ensures.stands (first_setting start) c.hunting.result c.hunting.ensures.stands) force
-    (stands_first most here.families here.printed c.new.result families printed) entries
+    (stands_first most here.families here.printed c.new.result families printed) refl entries
     c.newest-newest.ensures.bounded

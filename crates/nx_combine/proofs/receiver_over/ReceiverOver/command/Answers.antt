@@ -28,6 +28,7 @@ returns-clause-stands g c places start history log stands =
       taker = before.taker;
       combiner = combiner_of (held before.combiner.store places) before.combiner.finder;
       is_given = before.is_given;
+      sendings = before.sendings;
       memory = before.memory;
     } in
     let selecting : Refused → Inside _ _ _ =
@@ -56,6 +57,7 @@ returns-clause-stands g c places start history log stands =
       taker = i.taker;
       combiner = combiner_of (held i.combiner.store places) i.combiner.finder;
       is_given = i.is_given;
+      sendings = i.sendings;
       memory = i.memory;
     }) (history ++ event ∷ []) log) (sym change)
     (together_after most content old _ event a_command refl start history log
@@ -78,6 +80,7 @@ returns-in-RefuseSubject-clause-stands g c =
       taker = before.taker;
       combiner = combiner_of (held before.combiner.store places) before.combiner.finder;
       is_given = before.is_given;
+      sendings = before.sendings;
       memory = before.memory;
     } in
     together_after most content old

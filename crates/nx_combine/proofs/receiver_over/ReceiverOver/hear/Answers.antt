@@ -16,6 +16,7 @@ returns-clause-stands g c places =
       taker = i.taker;
       combiner = combiner_of (held i.combiner.store places) i.combiner.finder;
       is_given = i.is_given;
+      sendings = i.sendings;
       memory = i.memory;
     } in
     part_together most content (receiver_in held c.args.self.now places) old
@@ -37,6 +38,7 @@ returns-clause-first g c places =
       taker = i.taker;
       combiner = combiner_of (held i.combiner.store places) i.combiner.finder;
       is_given = i.is_given;
+      sendings = i.sendings;
       memory = i.memory;
     } in
     none_before_together most content (receiver_in held c.args.self.now places) old

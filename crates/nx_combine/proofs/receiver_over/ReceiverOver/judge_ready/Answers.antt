@@ -1,4 +1,5 @@
 use Rattle.std.proofs.Common.{◌≡◌, ◌∷◌, ◌∙◌, [], ap, cond, subst, sym, true}
+use Rattle.std.specs.Prelude.{IfSome}
 use Rattle.nx_envelope.specs.Copies.{errors_of}
 use Rattle.nx_envelope.specs.declared.finder.Finder.{Finder}
 use Rattle.nx_copies.specs.copies.FoundCopies.{TaggedCopy, headed_copy}
@@ -6,7 +7,10 @@ use Rattle.nx_copies.specs.hearing.CopyHearer.{ready_copies, ready_in}
 use Rattle.nx_receiver.proofs.lemmas.receiver.Given.{has_head, headed_ready, with_moment}
 use Rattle.nx_combine.specs.CombinedReceiver.{ReceiverOver, hearer_in, receiver_in}
 use Rattle.nx_combine.specs.Judging.{IsGivenAs, StandsHolding, combiner_of}
-use Rattle.nx_combine.specs.Judging.{copies_printed}
+use Rattle.nx_combine.specs.Families.{combined_copy_holding}
+use Rattle.nx_combine.specs.Judging.{copies_printed, printed_by_holding}
+use Rattle.nx_combine.specs.declared.combiner.PrintedCopy.{PrintedCopy}
+use Rattle.nx_combine.proofs.lemmas.Counted.{none_counted, one_counted}
 use Rattle.nx_combine.proofs.lemmas.JudgedOn.{no_entry, printed_was_selected}
 use Rattle.nx_combine.proofs.receiver_over.ReceiverOver.judge_ready.Goals as goal
 
@@ -18,7 +22,7 @@ judge-requires-clause-errors g c =
 
 -- it isn't printed
 pub returns-in_err-printed-clause-judged : goal.returns-in_err-printed-clause-judged
-returns-in_err-printed-clause-judged g c judged heard ready noted entries stands =
+returns-in_err-printed-clause-judged g c judged heard ready noted entries stands counts =
     let content = g.M.Recall.content in
     let held = g.S.HoldsFamilies.held in
     let places = c.args.places.now in
@@ -55,11 +59,17 @@ returns-in_err-printed-clause-judged g c judged heard ready noted entries stands
           kept.is_selected)
           c.in_err-printed.was
           ∙ no_entry _ _ c.from_residual-in_err-printed.ensures;
+      counted = ap (λ (r : ReceiverOver _ _). r.sendings) view ∙ counts
+          ∙ none_counted (printed_by_holding most judged heard) judged.printed
+          (is.printed judged.entries judged.families judged.printed heard given holds was
+          ∙ ap (λ o. copies_printed o c.judge.new.self.finder.text c.text.result.now
+          kept.is_selected)
+          c.in_err-printed.was);
     }
 
 -- it is printed
 pub returns-clause-judged : goal.returns-clause-judged
-returns-clause-judged g c judged heard ready noted entries stands =
+returns-clause-judged g c judged heard ready noted entries stands counts =
     let content = g.M.Recall.content in
     let held = g.S.HoldsFamilies.held in
     let places = c.args.places.now in
@@ -100,4 +110,13 @@ returns-clause-judged g c judged heard ready noted entries stands =
           ∙ ap (λ t. headed_copy c.in_ok-printed.printed.head
           (cond c.in_ok-printed.printed.is_given c.judge.new.self.finder.text t) true ∷ [])
           (c.text.ensures.text ∙ ap (λ (f : Finder). f.text) c.finder-finder.ensures);
+      counted =
+          subst (λ o. IfSome o (λ (p : PrintedCopy). p.sendings
+          ≡ (combined_copy_holding most judged.families heard).sendings)) c.in_ok-printed.was
+          (is.sendings judged.families judged.printed heard given was)
+          ∙ one_counted judged.entries judged.printed
+          (combined_copy_holding most judged.families heard) _
+          (is.printed judged.entries judged.families judged.printed heard given holds was
+          ∙ ap (λ o. copies_printed o c.judge.new.self.finder.text c.text.result.now
+          kept.is_selected) c.in_ok-printed.was);
     }

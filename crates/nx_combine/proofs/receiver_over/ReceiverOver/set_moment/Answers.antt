@@ -16,6 +16,7 @@ returns-clause-stands g c places start history log stands =
       taker = i.taker;
       combiner = combiner_of (held i.combiner.store places) i.combiner.finder;
       is_given = i.is_given;
+      sendings = i.sendings;
       memory = i.memory;
     } in
     together_after most content old _ _ a_moment refl start history log
