@@ -10,15 +10,18 @@
  *    where the pointer is to no const; no pointer is NULL, also where the length is 0; a length is
  *    less than 2^63. What is written to may hold anything before the call.
  *  - What a call writes to overlaps nothing else that it is given.
- *  - A receiver is made by nx_live_lend, and is never written or copied. The room is the receiver's
- *    until nx_live_return. Each call on a receiver has ended before the next begins.
+ *  - A receiver is made by nx_live_lend or nx_live_lend_combining, and is never written or copied. The
+ *    room is the receiver's until nx_live_return. Each call on a receiver has ended before the next
+ *    begins.
  *  - A receiver is closed or abandoned before its room is given back.
  */
 #ifndef NAVTEX_LIVE_H
 #define NAVTEX_LIVE_H
 
+#include <stdbool.h>
 #include <stddef.h>
 #include <stdint.h>
+#include <string.h>
 
 #ifdef __cplusplus
 extern "C" {
@@ -56,14 +59,26 @@ enum nx_live_status {
 #endif
 #define NX_LIVE_ROOM_ALIGNMENT 8
 
+/* The same of a receiver that takes several sendings of a message together: for so many channels, and so
+ * many messages of each channel at a time, its *families*, 0 to 200; with 0 it is NX_LIVE_ROOM. A channel
+ * has NX_LIVE_COMBINING_CHANNEL bytes, and each of its families NX_LIVE_FAMILY. */
+#define NX_LIVE_COMBINING_CHANNEL 19864
+#define NX_LIVE_FAMILY 8240
+#define NX_LIVE_MAX_FAMILIES 200
+#define NX_LIVE_COMBINING_ROOM(channels, families) \
+    (NX_LIVE_ROOM(channels) \
+     + ((families) > 0 ? (channels) * (NX_LIVE_COMBINING_CHANNEL - NX_LIVE_CHANNEL + (families) * NX_LIVE_FAMILY) : 0))
+
 /* Room for this many bytes holds each entry, and for this many each state. */
 #define NX_LIVE_MAX_ENTRY 4163
 #define NX_LIVE_MAX_STATE 11001
 
-/* A receiver: where the room lies that was lent to it, and for how many channels. */
+/* A receiver: where the room lies that was lent to it, for how many channels, and whether it takes
+ * several sendings of a message together. */
 struct nx_live {
     void *room;
     size_t channels;
+    bool combines;
 };
 
 /* Make a closed receiver of one, two or three channels, of NX_LIVE_ROOM of so many bytes of room,
@@ -82,7 +97,34 @@ static inline void nx_live_lend(struct nx_live *receiver, void *room, int channe
         nx_live_lend_3(receiver, room);
 }
 
-/* Gives the room of a closed receiver back. No call may take the receiver any more. */
+/* The same of a receiver that takes several sendings of a message together, as `navtex listen --combine`
+ * does: of NX_LIVE_COMBINING_CHANNEL bytes of room for each channel, whatever lies there, and of room for
+ * so many families of each channel, 1 to 200, of NX_LIVE_FAMILY bytes each. In that room each byte is 0,
+ * or it is as another receiver gave it back. Each channel's families lie behind those of the one before.
+ * Over the C that wasm2c makes only nx_live_lend_combining calls these. */
+void nx_live_lend_1_families(struct nx_live *receiver, void *room, void *families_room, size_t families);
+void nx_live_lend_2_families(struct nx_live *receiver, void *room, void *families_room, size_t families);
+void nx_live_lend_3_families(struct nx_live *receiver, void *room, void *families_room, size_t families);
+
+/* The same by a number of channels, 1 to 3, and of families of each channel, 0 to 200, in one room of
+ * NX_LIVE_COMBINING_ROOM bytes, whatever lies there. With 0 families it is nx_live_lend. */
+static inline void nx_live_lend_combining(struct nx_live *receiver, void *room, int channels, size_t families) {
+    unsigned char *families_room = (unsigned char *)room + (size_t)channels * NX_LIVE_COMBINING_CHANNEL;
+    if (families == 0) {
+        nx_live_lend(receiver, room, channels);
+        return;
+    }
+    memset(families_room, 0, (size_t)channels * families * NX_LIVE_FAMILY);
+    if (channels == 1)
+        nx_live_lend_1_families(receiver, room, families_room, families);
+    else if (channels == 2)
+        nx_live_lend_2_families(receiver, room, families_room, families);
+    else
+        nx_live_lend_3_families(receiver, room, families_room, families);
+}
+
+/* Gives the room of a closed receiver back, and that of its families. No call may take the receiver any
+ * more. */
 void nx_live_return(struct nx_live *receiver);
 
 /* Opens a closed receiver at a moment, in seconds since 1970-01-01 00:00:00 UTC.
@@ -102,6 +144,11 @@ uint32_t nx_live_set_moment(struct nx_live *receiver, uint64_t moment);
  * the entry; 0 where nothing is printed, and then it heard all. Ask with NX_LIVE_MAX_ENTRY of room. */
 uint32_t nx_live_hear(struct nx_live *receiver, uint8_t channel, const uint8_t *elements, size_t count,
                       size_t *heard, uint8_t *log, size_t capacity, size_t *written);
+
+/* Tells from how many sendings of its message the entry is put together that nx_live_hear handed out last
+ * on a channel: 1 where each copy is judged alone. 0 where it isn't done: NX_LIVE_CLOSED,
+ * NX_LIVE_NO_CHANNEL. */
+uint32_t nx_live_sendings(struct nx_live *receiver, uint8_t channel, uint64_t *sendings);
 
 /* Refuse a station or a subject, 'A' to 'Z', on a channel from here on, and refuse it no longer. */
 uint32_t nx_live_refuse_station(struct nx_live *receiver, uint8_t channel, uint8_t station);

@@ -19,7 +19,12 @@ static volatile unsigned came, taken;
 #define CHANNELS 3
 #endif
 
-static _Alignas(NX_LIVE_ROOM_ALIGNMENT) unsigned char room[NX_LIVE_ROOM(CHANNELS)];
+/* Of so many messages a channel, several sendings are taken together. */
+#ifndef FAMILIES
+#define FAMILIES 0
+#endif
+
+static _Alignas(NX_LIVE_ROOM_ALIGNMENT) unsigned char room[NX_LIVE_COMBINING_ROOM(CHANNELS, FAMILIES)];
 static uint8_t entry[NX_LIVE_MAX_ENTRY];
 static struct nx_live receiver;
 
@@ -48,7 +53,7 @@ static int hear(uint8_t element) {
 /* The main loop: hears until the machine goes on no more, and then hands out what stands open. */
 int bare(void) {
     size_t written;
-    nx_live_lend(&receiver, room, CHANNELS);
+    nx_live_lend_combining(&receiver, room, CHANNELS, FAMILIES);
     if (nx_live_open(&receiver, now()) != NX_LIVE_DONE)
         return 1;
     while (wait()) {

@@ -2,12 +2,15 @@
  * by one:
  *
  *   live-air hear PIECE              writes the log; elements are given in pieces of so many
- *   live-air resume STATE NEW        the same in pieces of 7, from the state in the file STATE; the
+ *   live-air combine FAMILIES PIECE  the same, and several sendings of a message are taken together, with
+ *                                    so many families of each channel
+ *   live-air sendings FAMILIES       from how many sendings each entry of that log is put together
+ *   live-air resume STATE NEW        the log in pieces of 7, from the state in the file STATE; the
  *                                    new one goes to the file NEW
  *   live-air entries                 reads a log entry by entry, and writes it again from what each
  *                                    is told to say
- *   live-air rooms                   tries receivers of one, two and three channels, and what is
- *                                    answered of a channel that isn't there
+ *   live-air rooms                   tries receivers of one, two and three channels, with families and
+ *                                    without, and what is answered of a channel that isn't there
  *   live-air speed PIECE TIMES       hears all elements so often, and says how many nanoseconds of
  *                                    the processor one took
  *
@@ -23,9 +26,15 @@
 #include <io.h>
 #endif
 
-static _Alignas(NX_LIVE_ROOM_ALIGNMENT) unsigned char room[NX_LIVE_ROOM(3)];
+/* Of each channel at most. Over the C that wasm2c makes, this is what live.c is compiled with. */
+#ifndef NX_LIVE_FAMILIES
+#define NX_LIVE_FAMILIES NX_LIVE_MAX_FAMILIES
+#endif
+
+static _Alignas(NX_LIVE_ROOM_ALIGNMENT) unsigned char room[NX_LIVE_COMBINING_ROOM(3, NX_LIVE_FAMILIES)];
 static uint8_t entry[NX_LIVE_MAX_ENTRY];
 static struct nx_live receiver;
+static int says_sendings; /* in place of the log */
 
 /* A call answered this status. */
 static void answers(const char *what, uint32_t status, uint32_t wanted) {
@@ -45,6 +54,17 @@ static uint8_t channel_of(const char **at) {
     return channel;
 }
 
+/* An entry that a channel handed out. */
+static void put(uint8_t channel, size_t written) {
+    uint64_t sendings;
+    if (!says_sendings) {
+        fwrite(entry, 1, written, stdout);
+    } else if (written > 0) {
+        done("nx_live_sendings", nx_live_sendings(&receiver, channel, &sendings));
+        printf("%" PRIu64 "\n", sendings);
+    }
+}
+
 /* Hears the digits of a line in pieces. */
 static void hear(uint8_t channel, const char *digits, size_t count, size_t piece) {
     uint8_t elements[1024];
@@ -54,7 +74,7 @@ static void hear(uint8_t channel, const char *digits, size_t count, size_t piece
         size_t next = count - at < piece ? count - at : piece;
         done("nx_live_hear",
              nx_live_hear(&receiver, channel, elements + at, next, &heard, entry, sizeof entry, &written));
-        fwrite(entry, 1, written, stdout);
+        put(channel, written);
     }
 }
 
@@ -87,7 +107,8 @@ static void close_all(void) {
     size_t written;
     do {
         done("nx_live_close", nx_live_close(&receiver, entry, sizeof entry, &written));
-        fwrite(entry, 1, written, stdout);
+        if (!says_sendings)
+            fwrite(entry, 1, written, stdout);
     } while (written > 0);
 }
 
@@ -99,6 +120,15 @@ static int hear_file(size_t piece) {
     give_file(piece);
     close_all();
     return 0;
+}
+
+/* The same with so many families of each channel. */
+static int combine(size_t families, size_t piece) {
+    if (families > NX_LIVE_FAMILIES)
+        done("too many families", 1);
+    nx_live_return(&receiver);
+    nx_live_lend_combining(&receiver, room, 3, families);
+    return hear_file(piece);
 }
 
 static int resume(const char *state_name, const char *new_name) {
@@ -137,14 +167,17 @@ static int entries(void) {
     return 0;
 }
 
-/* A receiver of so many channels: each that it has hears, and each call on another one, or with a
- * state of it, answers that there is none. */
-static void try_room(int channels) {
+/* A receiver of so many channels, with so many families of each: each channel that it has hears, and
+ * each call on another one, or with a state of it, answers that there is none. */
+static void try_room(int channels, size_t families) {
     static const char more[] = "STATE 2\nC0\nC1\nC2\nRS A\nEND\n";
     static uint8_t state[NX_LIVE_MAX_STATE];
     const uint8_t element = 1;
     size_t heard, written;
-    nx_live_lend(&receiver, room, channels);
+    uint64_t sendings = 1;
+    nx_live_lend_combining(&receiver, room, channels, families);
+    answers("nx_live_sendings", nx_live_sendings(&receiver, 0, &sendings), NX_LIVE_CLOSED);
+    answers("what nx_live_sendings told", (uint32_t)sendings, 0);
     answers("nx_live_open_from", nx_live_open_from(&receiver, (const uint8_t *)more, sizeof more - 1),
             channels < 3 ? NX_LIVE_NO_CHANNEL : NX_LIVE_DONE);
     nx_live_abandon(&receiver);
@@ -154,6 +187,7 @@ static void try_room(int channels) {
         answers("nx_live_hear",
                 nx_live_hear(&receiver, channel, &element, 1, &heard, entry, sizeof entry, &written), wanted);
         answers("nx_live_refuse_station", nx_live_refuse_station(&receiver, channel, 'A'), wanted);
+        answers("nx_live_sendings", nx_live_sendings(&receiver, channel, &sendings), wanted);
     }
     done("nx_live_save", nx_live_save(&receiver, state, sizeof state, &written));
     nx_live_abandon(&receiver);
@@ -166,7 +200,8 @@ static void try_room(int channels) {
 static int rooms(void) {
     nx_live_return(&receiver);
     for (int channels = 1; channels <= 3; channels++)
-        try_room(channels);
+        for (size_t families = 0; families <= 2; families++)
+            try_room(channels, families);
     return 0;
 }
 
@@ -203,6 +238,12 @@ int main(int argument_count, char **arguments) {
     nx_live_lend(&receiver, room, 3);
     if (argument_count == 3 && strcmp(arguments[1], "hear") == 0)
         return hear_file(strtoul(arguments[2], NULL, 10));
+    if (argument_count == 4 && strcmp(arguments[1], "combine") == 0)
+        return combine(strtoul(arguments[2], NULL, 10), strtoul(arguments[3], NULL, 10));
+    if (argument_count == 3 && strcmp(arguments[1], "sendings") == 0) {
+        says_sendings = 1;
+        return combine(strtoul(arguments[2], NULL, 10), 7);
+    }
     if (argument_count == 4 && strcmp(arguments[1], "resume") == 0)
         return resume(arguments[2], arguments[3]);
     if (argument_count == 2 && strcmp(arguments[1], "entries") == 0)
@@ -211,6 +252,7 @@ int main(int argument_count, char **arguments) {
         return rooms();
     if (argument_count == 4 && strcmp(arguments[1], "speed") == 0)
         return speed(strtoul(arguments[2], NULL, 10), atoi(arguments[3]));
-    fputs("usage: live-air hear PIECE | resume STATE NEW | entries | rooms | speed PIECE TIMES\n", stderr);
+    fputs("usage: live-air hear PIECE | combine FAMILIES PIECE | sendings FAMILIES | resume STATE NEW | entries"
+          " | rooms | speed PIECE TIMES\n", stderr);
     return 2;
 }

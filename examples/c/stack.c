@@ -27,7 +27,12 @@ int wait(void);
 #define CHANNELS 3
 #endif
 
-static _Alignas(NX_LIVE_ROOM_ALIGNMENT) unsigned char room[NX_LIVE_ROOM(CHANNELS)];
+/* Of how many messages a channel it takes several sendings together. */
+#ifndef FAMILIES
+#define FAMILIES 0
+#endif
+
+static _Alignas(NX_LIVE_ROOM_ALIGNMENT) unsigned char room[NX_LIVE_COMBINING_ROOM(CHANNELS, FAMILIES)];
 static uint8_t entry[NX_LIVE_MAX_ENTRY], state[NX_LIVE_MAX_STATE], element;
 static struct nx_live receiver;
 
@@ -37,6 +42,7 @@ enum call {
     SET_MOMENT,
     REFUSE_STATION,
     HEAR,
+    SENDINGS,
     SAVE,
     CLOSE,
     ABANDON,
@@ -44,8 +50,8 @@ enum call {
     LOG_ENTRY,
     CALLS
 };
-static const char *const names[CALLS] = {"open",  "open_from", "set_moment", "refuse_station", "hear",
-                                         "save", "close", "abandon",   "return",     "log_entry"};
+static const char *const names[CALLS] = {"open", "open_from", "set_moment", "refuse_station", "hear", "sendings",
+                                         "save", "close",     "abandon",    "return",         "log_entry"};
 static size_t deepest[CALLS], deepest_of_module[CALLS];
 
 /* Whether `look` paints. No compiler knows, so both ways of `look` have one frame, in one place. */
@@ -144,11 +150,13 @@ static int hears(void) {
     static struct nx_live_entry said;
     static uint8_t text[NX_LIVE_MAX_ENTRY];
     size_t heard, written, length;
+    uint64_t sendings;
     int is_done = 1, entries = 0;
     while (wait()) {
         MEASURE_DONE(HEAR, nx_live_hear(&receiver, 0, &element, 1, &heard, entry, sizeof entry, &written));
         if (written > 0) {
             entries++;
+            MEASURE_DONE(SENDINGS, nx_live_sendings(&receiver, 0, &sendings));
             MEASURE_DONE(LOG_ENTRY, nx_live_log_entry(&receiver, entry, written, &said, text, sizeof text, &length));
         }
     }
@@ -159,7 +167,7 @@ static int hears(void) {
 int bare(void) {
     size_t written, length = full_state();
     int is_done = 1;
-    nx_live_lend(&receiver, room, CHANNELS); /* clears the module's stack */
+    nx_live_lend_combining(&receiver, room, CHANNELS, FAMILIES); /* clears the module's stack */
     MEASURE_DONE(OPEN, nx_live_open(&receiver, now()));
     is_done &= hears();
     MEASURE_DONE(SET_MOMENT, nx_live_set_moment(&receiver, now() + 1));

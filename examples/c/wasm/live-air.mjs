@@ -1,6 +1,8 @@
 // What live-air.c does, by node over a module:
 //
 //   node live-air.mjs MODULE hear PIECE
+//   node live-air.mjs MODULE combine FAMILIES PIECE
+//   node live-air.mjs MODULE sendings FAMILIES
 //   node live-air.mjs MODULE resume STATE NEW
 //   node live-air.mjs MODULE entries
 //   node live-air.mjs MODULE speed PIECE TIMES
@@ -8,10 +10,17 @@ import { readFileSync, writeFileSync, writeSync } from "node:fs";
 import { Receiver } from "./receiver.mjs";
 
 const [module, call, first, second] = process.argv.slice(2);
-const receiver = await Receiver.of(readFileSync(module));
+const combines = call === "combine" || call === "sendings";
+const receiver = await Receiver.of(readFileSync(module), combines ? Number(first) : 0);
 
 function writeOut(entries) {
   for (const entry of entries) writeSync(1, entry);
+}
+
+// entries that a channel handed out
+function put(channel, entries) {
+  if (call !== "sendings") writeOut(entries);
+  else for (const _ of entries) writeSync(1, `${receiver.sendings(channel)}\n`);
 }
 
 function elementsOf(digits) {
@@ -26,7 +35,7 @@ function give(line, piece) {
       letters[1] === "S" ? "station" : "subject", value);
   const elements = elementsOf(value);
   for (let at = 0; at < elements.length; at += piece)
-    writeOut(receiver.hear(Number(channel), elements.subarray(at, at + piece)));
+    put(Number(channel), receiver.hear(Number(channel), elements.subarray(at, at + piece)));
 }
 
 function giveFile(piece) {
@@ -68,9 +77,10 @@ if (call === "speed") {
 } else if (call === "entries") {
   entries();
 } else {
-  if (call === "hear") receiver.open(0);
-  else receiver.openFrom(readFileSync(first));
-  giveFile(call === "hear" ? Number(first) : 7);
+  if (call === "resume") receiver.openFrom(readFileSync(first));
+  else receiver.open(0);
+  giveFile(call === "hear" ? Number(first) : call === "combine" ? Number(second) : 7);
   if (call === "resume") writeFileSync(second, receiver.save());
-  writeOut(receiver.close());
+  const entries = receiver.close();
+  if (call !== "sendings") writeOut(entries);
 }

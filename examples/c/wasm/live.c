@@ -17,14 +17,20 @@
 #define NX_LIVE_CHANNELS 3
 #endif
 
+/* And so many families each of these has at most; with some, each receiver has the room of so many. */
+#ifndef NX_LIVE_FAMILIES
+#define NX_LIVE_FAMILIES 0
+#endif
+
+#define ROOM NX_LIVE_COMBINING_ROOM(NX_LIVE_CHANNELS, NX_LIVE_FAMILIES)
 #define PIECE 512u        /* so many elements go into the module at once */
 #define MOST_STATE 11008u /* no text of a state is longer; a multiple of 8 */
 #define MOST_TEXT 4100u   /* no text of an entry is longer */
 
 /* What the calls of the module write to, behind its own memory. */
 struct lent {
-    uint64_t handle[2], heard, written;
-    uint8_t room[NX_LIVE_CHANNELS * NX_LIVE_CHANNEL];
+    uint64_t handle[3], number, written;
+    uint8_t room[ROOM - NX_LIVE_ROOM(0)]; /* the places, and the families behind them */
     uint8_t elements[PIECE];
     uint8_t log[MOST_STATE];
 };
@@ -42,7 +48,7 @@ struct seen {
 /* What lies in the room of a receiver. */
 struct place {
     Z_navtex_live_instance_t module;
-    uint8_t memory[NX_LIVE_ROOM(NX_LIVE_CHANNELS) - sizeof(Z_navtex_live_instance_t)];
+    uint8_t memory[ROOM - sizeof(Z_navtex_live_instance_t)];
 };
 
 /* Where the module's own memory ends, with its stack and its constants; and where a part of what is
@@ -51,7 +57,7 @@ struct place {
 #define AT(part) (OWN + offsetof(struct lent, part))
 #define HERE(place, address) ((place)->memory + NX_LIVE_LENT(address))
 
-_Static_assert(sizeof(struct place) <= NX_LIVE_ROOM(NX_LIVE_CHANNELS), "the room holds an instance");
+_Static_assert(sizeof(struct place) <= ROOM, "the room holds an instance");
 _Static_assert(NX_LIVE_MAX_STATE <= MOST_STATE, "a state has place");
 _Static_assert(NX_LIVE_MAX_ENTRY <= MOST_STATE, "an entry has place where a state has");
 _Static_assert(sizeof(struct seen) + MOST_TEXT + NX_LIVE_MAX_ENTRY <= MOST_STATE, "and so has one that is read");
@@ -87,13 +93,14 @@ uint32_t wasm_rt_grow_memory(wasm_rt_memory_t *memory, uint32_t pages) {
 
 void wasm_rt_free_memory(wasm_rt_memory_t *memory) { (void)memory; }
 
-/* Makes the instance in its room, for so many channels: that of fewer than NX_LIVE_CHANNELS has the
- * room of so many. */
-static struct place *made(struct nx_live *receiver, void *room, size_t channels) {
-    if (channels > NX_LIVE_CHANNELS)
+/* Makes the instance in its room, for so many channels, with so many families of each: that of fewer
+ * than NX_LIVE_CHANNELS and NX_LIVE_FAMILIES has the room of so many. */
+static struct place *made(struct nx_live *receiver, void *room, size_t channels, size_t families) {
+    if (channels > NX_LIVE_CHANNELS || families > NX_LIVE_FAMILIES)
         wasm_rt_trap(WASM_RT_TRAP_OOB); /* the room is that of fewer */
     receiver->room = room;
     receiver->channels = channels;
+    receiver->combines = families > 0;
     Z_navtex_live_init_module();
     Z_navtex_live_instantiate(&place_of(receiver)->module);
     if (*Z_navtex_liveZ___heap_base(&place_of(receiver)->module) > OWN)
@@ -102,15 +109,36 @@ static struct place *made(struct nx_live *receiver, void *room, size_t channels)
 }
 
 void nx_live_lend_1(struct nx_live *receiver, void *room) {
-    Z_navtex_liveZ_nx_live_lend_1(&made(receiver, room, 1)->module, AT(handle), AT(room));
+    Z_navtex_liveZ_nx_live_lend_1(&made(receiver, room, 1, 0)->module, AT(handle), AT(room));
 }
 
 void nx_live_lend_2(struct nx_live *receiver, void *room) {
-    Z_navtex_liveZ_nx_live_lend_2(&made(receiver, room, 2)->module, AT(handle), AT(room));
+    Z_navtex_liveZ_nx_live_lend_2(&made(receiver, room, 2, 0)->module, AT(handle), AT(room));
 }
 
 void nx_live_lend_3(struct nx_live *receiver, void *room) {
-    Z_navtex_liveZ_nx_live_lend_3(&made(receiver, room, 3)->module, AT(handle), AT(room));
+    Z_navtex_liveZ_nx_live_lend_3(&made(receiver, room, 3, 0)->module, AT(handle), AT(room));
+}
+
+/* The families' room isn't asked: they lie behind the places, in the module's memory. It is all zero. */
+#define FAMILIES_AT(channels) (AT(room) + (channels) * NX_LIVE_COMBINING_CHANNEL)
+
+void nx_live_lend_1_families(struct nx_live *receiver, void *room, void *families_room, size_t families) {
+    (void)families_room;
+    Z_navtex_liveZ_nx_live_lend_1_families(&made(receiver, room, 1, families)->module, AT(handle), AT(room),
+                                           FAMILIES_AT(1), families);
+}
+
+void nx_live_lend_2_families(struct nx_live *receiver, void *room, void *families_room, size_t families) {
+    (void)families_room;
+    Z_navtex_liveZ_nx_live_lend_2_families(&made(receiver, room, 2, families)->module, AT(handle), AT(room),
+                                           FAMILIES_AT(2), families);
+}
+
+void nx_live_lend_3_families(struct nx_live *receiver, void *room, void *families_room, size_t families) {
+    (void)families_room;
+    Z_navtex_liveZ_nx_live_lend_3_families(&made(receiver, room, 3, families)->module, AT(handle), AT(room),
+                                           FAMILIES_AT(3), families);
 }
 
 void nx_live_return(struct nx_live *receiver) {
@@ -137,9 +165,9 @@ uint32_t nx_live_set_moment(struct nx_live *receiver, uint64_t moment) {
 static uint32_t hear_piece(struct place *place, uint8_t channel, const uint8_t *elements, size_t count,
                            size_t *heard, size_t capacity, size_t *written) {
     memcpy(HERE(place, AT(elements)), elements, count);
-    uint32_t status = Z_navtex_liveZ_nx_live_hear(&place->module, AT(handle), channel, AT(elements), count, AT(heard),
+    uint32_t status = Z_navtex_liveZ_nx_live_hear(&place->module, AT(handle), channel, AT(elements), count, AT(number),
                                                   AT(log), least(capacity, NX_LIVE_MAX_ENTRY), AT(written));
-    *heard += number_at(place, AT(heard));
+    *heard += number_at(place, AT(number));
     *written = number_at(place, AT(written));
     return status;
 }
@@ -157,6 +185,13 @@ uint32_t nx_live_hear(struct nx_live *receiver, uint8_t channel, const uint8_t *
         status = hear_piece(place, channel, elements + *heard, least(count - *heard, PIECE), heard, capacity, written);
     while (status == NX_LIVE_DONE && *written == 0 && *heard < count);
     memcpy(log, HERE(place, AT(log)), *written);
+    return status;
+}
+
+uint32_t nx_live_sendings(struct nx_live *receiver, uint8_t channel, uint64_t *sendings) {
+    struct place *place = place_of(receiver);
+    uint32_t status = Z_navtex_liveZ_nx_live_sendings(&place->module, AT(handle), channel, AT(number));
+    *sendings = number_at(place, AT(number));
     return status;
 }
 

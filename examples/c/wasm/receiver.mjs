@@ -2,19 +2,22 @@
 // navtex-live.h. Each has the numbers of the module's memory as its arguments; here a method takes
 // bytes and gives bytes.
 
-const ROOM = 22392; // NX_LIVE_KEPT of the header, of three channels
+const CHANNELS = 3;
+const CHANNEL = 7464; // NX_LIVE_CHANNEL of the header
+const COMBINING_CHANNEL = 19864; // NX_LIVE_COMBINING_CHANNEL
+const FAMILY = 8240; // NX_LIVE_FAMILY
 const MAX_ENTRY = 4163; // NX_LIVE_MAX_ENTRY
 const MAX_STATE = 11001; // no text of a state is longer
 const MAX_TEXT = 4100; // no text of an entry is longer
 const PIECE = 4096; // elements that one call of the module hears
 const PAGE = 65536;
 
-// What the calls write to, behind the module's own memory.
+// What the calls write to, behind the module's own memory; behind it the places lie, and then the families
+// of each channel.
 const OFFSETS = {
-  handle: 0, heard: 16, written: 24, entry: 32, room: 56, log: 56 + ROOM, text: 56 + ROOM + MAX_ENTRY,
-  elements: 56 + ROOM + MAX_STATE,
+  handle: 0, number: 24, written: 32, entry: 40, log: 64, text: 64 + MAX_ENTRY, elements: 64 + MAX_STATE,
+  room: Math.ceil((64 + MAX_STATE + PIECE) / 8) * 8,
 };
-const SIZE = OFFSETS.elements + PIECE;
 
 function grow(memory, pages) {
   try {
@@ -33,18 +36,23 @@ export class Refused extends Error {
 }
 
 export class Receiver {
-  /** A closed receiver, by the bytes of a module. */
-  static async of(bytes) {
+  /** A closed receiver, by the bytes of a module. It takes several sendings of a message together, with so
+   * many families of each channel, 0 to 200; with 0 each copy is judged alone. */
+  static async of(bytes, families = 0) {
     const { instance } = await WebAssembly.instantiate(bytes, {});
-    return new Receiver(instance.exports);
+    return new Receiver(instance.exports, families);
   }
 
-  constructor(exports) {
+  constructor(exports, families) {
     this.exports = exports;
     this.base = Math.ceil(Number(exports.__heap_base.value) / 8) * 8;
-    const lacking = this.base + SIZE - exports.memory.buffer.byteLength;
+    const places = CHANNELS * (families > 0 ? COMBINING_CHANNEL : CHANNEL);
+    const size = OFFSETS.room + places + CHANNELS * families * FAMILY;
+    const lacking = this.base + size - exports.memory.buffer.byteLength;
     if (lacking > 0) grow(exports.memory, Math.ceil(lacking / PAGE));
-    exports.nx_live_lend_3(this.at("handle"), this.at("room"));
+    const [handle, room] = [this.at("handle"), this.at("room")];
+    if (families > 0) exports.nx_live_lend_3_families(handle, room, room + BigInt(places), BigInt(families));
+    else exports.nx_live_lend_3(handle, room);
   }
 
   at(name) {
@@ -83,14 +91,21 @@ export class Receiver {
   /** Hears elements of a channel, 1 for B and 0 for Y: gives the entries that are printed. */
   hear(channel, elements) {
     const entries = [];
-    for (let at = 0; at < elements.length; at += this.number("heard")) {
+    for (let at = 0, heard; at < elements.length; at += heard) {
       const piece = elements.subarray(at, at + PIECE);
       this.bytes("elements", piece.length).set(piece);
-      this.call("nx_live_hear", channel, this.at("elements"), BigInt(piece.length), this.at("heard"),
+      this.call("nx_live_hear", channel, this.at("elements"), BigInt(piece.length), this.at("number"),
         this.at("log"), BigInt(MAX_ENTRY), this.at("written"));
+      heard = this.number("number");
       if (this.number("written") > 0) entries.push(this.bytes("log", this.number("written")).slice());
     }
     return entries;
+  }
+
+  /** From how many sendings the entry is put together that `hear` gave last of a channel. */
+  sendings(channel) {
+    this.call("nx_live_sendings", channel, this.at("number"));
+    return this.number("number");
   }
 
   /** Refuses or accepts a station or a subject: `select(0, "refuse", "station", "E")`. */
