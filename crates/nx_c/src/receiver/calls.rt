@@ -1,5 +1,5 @@
-//! The calls of a receiver. Each does with the places of its channels what `nx_handle` does, be they
-//! plain ones or such as take the sendings of a message together.
+//! The calls of a receiver. Each does with the places of its channels what `nx_handle` does, be
+//! they plain ones or such as take the sendings of a message together.
 
 ghost use Rattle.std.specs.Prelude.{◌≡◌, ◌≢◌, IfSome, None, true, false, ⊤};
 ghost use Rattle.nx_c.specs.ByKind.{AnswersBy, is_closed, three_closed};
@@ -117,7 +117,7 @@ fn closed_places() -> [PlainPlace; 3]
     [PlainPlace::Closed, PlainPlace::Closed, PlainPlace::Closed]
 }
 
-/// The number of the status of opening where there is no memory, and it would have this status else:
+/// The number of the status of opening without memory, by that of opening places that need none:
 /// what is refused is told first.
 fn without_memory(status: u32) -> u32
     ensures done { status ≡ number_of Done → result ≡ number_of Memory }
@@ -208,8 +208,8 @@ pub extern "C" fn nx_refuse_station(
     station: u8,
 ) -> u32
     ensures { AnswersBy (λ P kind old new. AnswersSelecting kind
-        (command_status channel 3 (RefuseStation station)) (events.refuse_station station) channel old
-        new result) receiver.old.value receiver.new.value }
+        (command_status channel 3 (RefuseStation station)) (events.refuse_station station)
+        channel old new result) receiver.old.value receiver.new.value }
 {
     let Some(mut opened) = receiver.take(alloc) else {
         return Status::Closed.number();
@@ -228,8 +228,8 @@ pub extern "C" fn nx_accept_station(
     station: u8,
 ) -> u32
     ensures { AnswersBy (λ P kind old new. AnswersSelecting kind
-        (command_status channel 3 (AcceptStation station)) (events.accept_station station) channel old
-        new result) receiver.old.value receiver.new.value }
+        (command_status channel 3 (AcceptStation station)) (events.accept_station station)
+        channel old new result) receiver.old.value receiver.new.value }
 {
     let Some(mut opened) = receiver.take(alloc) else {
         return Status::Closed.number();
@@ -249,8 +249,8 @@ pub extern "C" fn nx_refuse_subject(
     subject: u8,
 ) -> u32
     ensures { AnswersBy (λ P kind old new. AnswersSelecting kind
-        (command_status channel 3 (RefuseSubject subject)) (events.refuse_subject subject) channel old
-        new result) receiver.old.value receiver.new.value }
+        (command_status channel 3 (RefuseSubject subject)) (events.refuse_subject subject)
+        channel old new result) receiver.old.value receiver.new.value }
 {
     let Some(mut opened) = receiver.take(alloc) else {
         return Status::Closed.number();
@@ -269,8 +269,8 @@ pub extern "C" fn nx_accept_subject(
     subject: u8,
 ) -> u32
     ensures { AnswersBy (λ P kind old new. AnswersSelecting kind
-        (command_status channel 3 (AcceptSubject subject)) (events.accept_subject subject) channel old
-        new result) receiver.old.value receiver.new.value }
+        (command_status channel 3 (AcceptSubject subject)) (events.accept_subject subject)
+        channel old new result) receiver.old.value receiver.new.value }
 {
     let Some(mut opened) = receiver.take(alloc) else {
         return Status::Closed.number();

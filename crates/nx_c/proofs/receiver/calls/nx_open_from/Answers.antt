@@ -30,7 +30,8 @@ returns-then-status-number c =
     omega (arith, c.if-families-gt-MAX_FAMILIES.false) in
     subst (λ o. OpensFromState c.args.state.now c.args.families o c.hold.new.self.value
     c.open_from-status.result) (sym none)
-    (opens (λ P kind old new. AnswersOpeningFrom kind c.args.state.now old new c.open_from-status.result)
+    (opens (λ P kind old new. AnswersOpeningFrom kind c.args.state.now old new
+    c.open_from-status.result)
     (BeginsWith c.args.state.now (λ states more. ⊤)) c.args.families c.hold.new.self.value
     c.open_from-status.result c.deref_mut.result.now c.open_from-status.new.self few
     (subst (IsReady c.args.families) (sym c.deref_mut.ensures.value) c.in-Ok.ensures)
