@@ -14,6 +14,7 @@ import { Tones } from './show/tones.js';
 import { View } from './show/view.js';
 
 const TICK = 1000; // milliseconds
+const FAMILIES = 60; // messages of a channel whose sendings are taken together
 
 const HEARING = ['listen', 'tones', 'arriving', 'refuse', 'receives']; // what isn't there where a watch is followed
 
@@ -148,7 +149,11 @@ class Page {
     /** Opens the receiver from the store; `receives` says whether this window hears, or looks on. */
     async #open(receives) {
         const bytes = bytesOfModule();
-        const receivers = await Promise.all([Receiver.load(bytes), Receiver.load(bytes)]);
+        const receivers = await Promise.all([Receiver.load(bytes, FAMILIES), Receiver.load(bytes)]);
+        if (receivers[0].families === 0) {
+            this.#faults.show('This browser has too little memory left to take sendings of a message together: '
+                + 'here each copy is judged alone.');
+        }
         const kept = new KeptReceiver(receivers, this.#store, {
             fault: (fault) => this.#faults.tell(fault),
             added: (added) => this.#messages.add(added),

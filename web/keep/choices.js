@@ -1,6 +1,6 @@
 // The choices of the page, which stay over a reload: how it looks, the tones of each frequency, what
 // rings, names of stations. A value that is none of these is as if nobody had chosen.
-import { CHANNELS } from '../receiver/state.js';
+import { CHANNELS } from '../receiver/receiver.js';
 import { shipOf } from '../places/ship.js';
 import { PageFault } from '../show/faults.js';
 

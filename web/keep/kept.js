@@ -1,20 +1,26 @@
 // The receiver with its messages: whatever is printed is kept at once, with the state behind it. After
 // a reload it goes on from there, so that nothing is lost and nothing is printed again.
-import { entriesOf, entryAt, lineOf } from '../receiver/entries.js';
+import { Messages } from '../receiver/copies.js';
+import { entriesOf, entryAt, isWhole, lineOf } from '../receiver/entries.js';
 import { ReceiverFault } from '../receiver/receiver.js';
 import { SoundRun } from '../receiver/run.js';
 import { EMPTY_STATE, refusedIn, stateAt, stateForgotten, stateRefusing, stateWith } from '../receiver/state.js';
 import { LostFault, StoreFault } from './store.js';
 
 const AT_ONCE = 200; // entries of a log after which the page may do something else
+const LISTS = { Station: 'stations', Subject: 'subjects' }; // of what is refused, by kind
+
+/** From how many sendings an entry is, as far as that is known. */
+const sendingsOf = (count) => (Number.isSafeInteger(count) && count > 1 ? { sendings: count } : {});
 
 /** A message of an entry that the store has, or null where it is none. */
-function messageOf({ id, text, isRead }) {
+function messageOf({ id, text, isRead, sendings }) {
     const entry = typeof text === 'string' ? entryAt(text) : null;
-    return entry === null || !Number.isSafeInteger(id) ? null : { ...entry, id, isRead: isRead === true };
+    if (entry === null || !Number.isSafeInteger(id)) return null;
+    return { ...entry, id, isRead: isRead === true, ...sendingsOf(sendings) };
 }
 
-const storedOf = ({ id, log, isRead }) => ({ id, text: log, isRead });
+const storedOf = ({ id, log, isRead, sendings }) => ({ id, text: log, isRead, ...sendingsOf(sendings) });
 
 /** In order of time; of one time in the order in which they were printed. */
 const inOrder = (one, other) => one.moment - other.moment || one.id - other.id;
@@ -25,6 +31,7 @@ export class KeptReceiver {
     #store;
     #on;
     #run = null;      // the sound that is being heard
+    #printed;         // messages that were printed since the receiver was opened
     #messages = [];   // in order
     #refused;         // for each channel what the user refuses
     #lastId = 0;
@@ -84,16 +91,25 @@ export class KeptReceiver {
 
     /** Takes a line of the sound, and keeps what it prints. */
     take(line) {
-        this.#keepPrinted(this.#run.take(line));
+        const entries = this.#run.take(line);
+        this.#printed.add(entries);
+        this.#keepPrinted(entries);
     }
 
     /** The sound is over: what was still being heard is printed as cut. What its commands chose is over
-     *  too. Answers when all of it is kept. */
+     *  too. Where nothing that was printed can become better, the receiver begins anew from its state;
+     *  else it goes on with the next sound. Answers when all is kept. */
     async endOfSound(now) {
-        const state = this.#state();
         const entries = this.#run.close();
         this.#run = null;
-        this.#start(state, now);
+        this.#printed.add(entries);
+        const state = this.#state();
+        if (this.#isDone() || stateAt(state, now) !== state) {
+            this.#receiver.abandon();
+            this.#start(state, now);
+        } else {
+            this.#refuseAsChosen();
+        }
         this.#keepPrinted(entries);
         await this.#written;
     }
@@ -101,7 +117,7 @@ export class KeptReceiver {
     /** Refuses a station or a subject on a channel, or accepts it again. */
     choose(kind, channel, letter, isRefused) {
         this.#receiver[(isRefused ? 'refuse' : 'accept') + kind](channel, letter);
-        const list = kind === 'Station' ? 'stations' : 'subjects';
+        const list = LISTS[kind];
         const others = this.#refused[channel][list].filter((other) => other !== letter);
         this.#refused[channel][list] = isRefused ? [...others, letter].sort() : others;
         this.#write({});
@@ -172,6 +188,23 @@ export class KeptReceiver {
         return stateRefusing(this.#receiver.save(), this.#refused);
     }
 
+    /** Whether no later sending makes what was printed better; what is numbered 00 is never taken together. */
+    #isDone() {
+        if (this.#receiver.families === 0) return true;
+        return this.#printed.all.every(({ best }) => best.number === '00' || isWhole(best));
+    }
+
+    /** The receiver refuses what the user does, and nothing else. */
+    #refuseAsChosen() {
+        const here = refusedIn(this.#receiver.save());
+        for (const [kind, list] of Object.entries(LISTS)) {
+            this.#refused.forEach((chosen, channel) => {
+                for (const letter of here[channel][list]) this.#receiver[`accept${kind}`](channel, letter);
+                for (const letter of chosen[list]) this.#receiver[`refuse${kind}`](channel, letter);
+            });
+        }
+    }
+
     /** The entries that aren't there yet; of equal ones as many as there are more. */
     #unknown(entries) {
         const known = new Map();
@@ -186,6 +219,7 @@ export class KeptReceiver {
     /** Opens the receiver from a state, without what a clock far ahead left in it. One that is no state
      *  is put aside, and it is opened from what the messages tell. */
     #start(state, now) {
+        this.#printed = new Messages();
         try {
             this.#receiver.openFrom(typeof state === 'string' ? state : '');
             this.#receiver.abandon();
@@ -204,7 +238,7 @@ export class KeptReceiver {
     }
 
     #keepPrinted(entries) {
-        const added = entries.map((text) => ({ ...entryAt(text), id: ++this.#lastId, isRead: false }));
+        const added = entries.map((entry) => ({ ...entry, id: ++this.#lastId, isRead: false }));
         if (added.length > 0) this.#write({ messages: added }).then(() => this.#show(added));
     }
 

@@ -75,6 +75,11 @@ export function isGood(entry) {
     return entry.how === 'full' && 25 * entry.errors < Math.max(1, entry.characters);
 }
 
+/** Whether nothing of it is lost. */
+export function isWhole({ how, errors }) {
+    return how === 'full' && errors === 0;
+}
+
 export function identityOf(entry) {
     return entry.station + entry.subject + entry.number;
 }

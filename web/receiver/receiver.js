@@ -3,10 +3,15 @@
 // its calls take addresses and lengths as BigInt all the same.
 
 const PAGE = 65536;
+export const CHANNELS = 3;
 export const ROOM = 22392;     // NX_LIVE_KEPT
 export const MAX_ENTRY = 4163; // NX_LIVE_MAX_ENTRY
 const MAX_STATE = 12288;
 const MAX_ELEMENTS = 4096; // of one call; more are given in pieces
+
+// What takes sendings together needs more: of three channels, and of each family.
+export const COMBINING_ROOM = 65536;
+export const FAMILY = 8240;
 
 export const MAX_MOMENT = 32503679999; // the end of the year 2999
 
@@ -42,18 +47,32 @@ export class ReceiverFault extends Error {
     }
 }
 
-/** Where the things that a call reads and writes lie: one page of memory that only this file uses. */
-function layOut(start) {
-    const sizes = { handle: 16, room: ROOM, heard: 8, written: 8, elements: MAX_ELEMENTS,
-        log: MAX_ENTRY, state: MAX_STATE };
+/** Takes memory, which is all zero, and that only this file uses: where things of these sizes lie. */
+function takeMemory(memory, sizes) {
     const places = {};
-    let at = start;
+    let length = 0;
     for (const [name, size] of Object.entries(sizes)) {
-        places[name] = at;
-        at += Math.ceil(size / 16) * 16;
+        places[name] = length;
+        length += Math.ceil(size / 16) * 16;
     }
-    if (at > start + PAGE) throw new Error("the receiver's things need more than a page");
-    return places;
+    const start = memory.grow(Math.ceil(length / PAGE)) * PAGE;
+    return Object.fromEntries(Object.entries(places).map(([name, at]) => [name, start + at]));
+}
+
+/** Where the things lie that a call reads and writes. */
+function layOut(memory, room) {
+    return takeMemory(memory, { handle: 64, room, number: 8, written: 8, elements: MAX_ELEMENTS,
+        log: MAX_ENTRY, state: MAX_STATE });
+}
+
+/** Where so many families of each channel lie; null where there is no memory for them. */
+function layOutFamilies(memory, count) {
+    try {
+        return takeMemory(memory, { families: CHANNELS * count * FAMILY }).families;
+    } catch (fault) {
+        if (!(fault instanceof RangeError)) throw fault;
+        return null;
+    }
 }
 
 const bytesOf = (text) => Uint8Array.from(text, (letter) => letter.charCodeAt(0) & 0xff);
@@ -64,17 +83,29 @@ export class Receiver {
     #memory;
     #at;
 
-    /** A closed receiver, of the bytes of the module. */
-    static async load(bytes) {
+    /** For how many messages of a channel it takes sendings together; where it is none, each copy is
+     *  judged alone. */
+    families = 0;
+
+    /** A closed receiver, of the bytes of the module. It takes the sendings of so many messages of a
+     *  channel together, or of none, where there is no memory for them. */
+    static async load(bytes, families = 0) {
         const { instance } = await WebAssembly.instantiate(bytes, {});
-        return new Receiver(instance);
+        return new Receiver(instance, families);
     }
 
-    constructor(instance) {
+    constructor(instance, families) {
         this.#calls = instance.exports;
         this.#memory = instance.exports.memory;
-        this.#at = layOut(this.#memory.grow(1) * PAGE);
-        this.#calls.nx_live_lend_3(BigInt(this.#at.handle), BigInt(this.#at.room));
+        const lent = families > 0 ? layOutFamilies(this.#memory, families) : null;
+        this.#at = layOut(this.#memory, lent === null ? ROOM : COMBINING_ROOM);
+        const [handle, room] = [BigInt(this.#at.handle), BigInt(this.#at.room)];
+        if (lent === null) {
+            this.#calls.nx_live_lend_3(handle, room);
+        } else {
+            this.families = families;
+            this.#calls.nx_live_lend_3_families(handle, room, BigInt(lent), BigInt(families));
+        }
     }
 
     /** Opens it at a moment, in seconds since 1970. It remembers nothing. */
@@ -100,13 +131,14 @@ export class Receiver {
         this.#call('nx_live_set_moment', BigInt(moment));
     }
 
-    /** Hears elements, each a byte, 1 for B and 0 for Y: the entries that are printed, in order. */
+    /** Hears elements, each a byte, 1 for B and 0 for Y: the entries that are printed, in order, each as it
+     *  stands in a log, with the number of sendings that it is put together from. */
     hear(channel, elements) {
         const entries = [];
         for (let from = 0; from < elements.length;) {
-            const [heard, entry] = this.#hearPiece(channel, elements.subarray(from, from + MAX_ELEMENTS));
+            const [heard, log] = this.#hearPiece(channel, elements.subarray(from, from + MAX_ELEMENTS));
             from += heard;
-            if (entry !== '') entries.push(entry);
+            if (log !== '') entries.push({ log, sendings: this.#sendings(channel) });
         }
         return entries;
     }
@@ -127,15 +159,25 @@ export class Receiver {
         this.#select('nx_live_accept_subject', channel, letter);
     }
 
-    /** Closes it: the entries that its end prints, of messages that were still being heard. */
+    /** Closes it: the entries that its end prints, of messages that were still being heard. From how many
+     *  sendings these are, a receiver that is being closed doesn't say. */
     close() {
         const entries = [];
         for (;;) {
             this.#call('nx_live_close', BigInt(this.#at.log), BigInt(MAX_ENTRY), BigInt(this.#at.written));
-            const entry = this.#entry();
-            if (entry === '') return entries;
-            entries.push(entry);
+            const log = this.#entry();
+            if (log === '') return entries;
+            entries.push({ log });
         }
+    }
+
+    /** The entries that its end would print here. It stays as it is: its memory is put back. */
+    closing() {
+        const memory = new Uint8Array(this.#memory.buffer);
+        const before = memory.slice();
+        const entries = this.close();
+        memory.set(before);
+        return entries;
     }
 
     /** Closes it, and prints nothing. */
@@ -146,8 +188,14 @@ export class Receiver {
     #hearPiece(channel, elements) {
         this.#bytes(this.#at.elements, elements.length).set(elements);
         this.#call('nx_live_hear', channel, BigInt(this.#at.elements), BigInt(elements.length),
-            BigInt(this.#at.heard), BigInt(this.#at.log), BigInt(MAX_ENTRY), BigInt(this.#at.written));
-        return [this.#number(this.#at.heard), this.#entry()];
+            BigInt(this.#at.number), BigInt(this.#at.log), BigInt(MAX_ENTRY), BigInt(this.#at.written));
+        return [this.#number(this.#at.number), this.#entry()];
+    }
+
+    /** From how many sendings the entry is that was printed last on a channel. */
+    #sendings(channel) {
+        this.#call('nx_live_sendings', channel, BigInt(this.#at.number));
+        return this.#number(this.#at.number);
     }
 
     #select(name, channel, letter) {

@@ -1,8 +1,8 @@
 // The text of a state, as the receiver saves it: for each channel what is refused and what is
 // remembered. The page reads it to show the choices, and writes one where a log is loaded.
 import { identityOf, isGood } from './entries.js';
+import { CHANNELS } from './receiver.js';
 
-export const CHANNELS = 3;
 const MEMORY = 237600; // seconds, 66 hours, for which a message is remembered
 const MOST = 200;      // messages that are remembered on a channel
 

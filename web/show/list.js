@@ -1,7 +1,7 @@
 // The list of messages, newest first, and the choice of those that are shown: by words, station,
 // subject, age and distance. Of many only the newest stand in the page, so that one more costs the same.
 import { placesOf } from '../places/places.js';
-import { Messages } from './copies.js';
+import { Messages } from '../receiver/copies.js';
 import { button, itemOf, made } from './messages.js';
 import { LETTERS, subjectName } from './subjects.js';
 

@@ -68,11 +68,17 @@ function textOf(entry) {
     return made('pre', '', ...parts, ...withLost(entry.text.slice(done).replace(/\n$/, '')));
 }
 
-/** When an entry came, and how much of it. */
+/** From how many sendings an entry was put together; nothing where it is one. */
+function sendingsSaid({ sendings }) {
+    return sendings > 1 ? `, from ${sendings} sendings` : '';
+}
+
+/** When an entry came, how much of it, and from how many sendings. */
 function factsOf(entry) {
     const time = made('time', '', `${entry.time} UTC`);
     time.dateTime = entry.time.replace(' ', 'T') + 'Z';
-    return made('p', 'facts', time, `, ${FREQUENCIES[entry.channel]}, ${ENDS[entry.how]}, ${countOf(entry)}`);
+    const facts = `, ${FREQUENCIES[entry.channel]}, ${ENDS[entry.how]}, ${countOf(entry)}${sendingsSaid(entry)}`;
+    return made('p', 'facts', time, facts);
 }
 
 /** What is said where the best copy took the place of a worse one. */

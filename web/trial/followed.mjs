@@ -12,8 +12,8 @@ import { frameOf, linesBetween, lineSaid, middleOf, near, sizeIn } from '../plac
 import { waySaid, wayTo } from '../places/earth.js';
 import { positionOf, positionSaid, positionsIn } from '../places/positions.js';
 import { shipOf } from '../places/ship.js';
+import { Messages } from '../receiver/copies.js';
 import { entryAt, lineOf, readLog } from '../receiver/entries.js';
-import { Messages } from '../show/copies.js';
 import { newsOf } from '../show/messages.js';
 import { chanceOf } from './chance.mjs';
 import { entryOf, keptOf } from './kept.mjs';

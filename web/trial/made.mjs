@@ -31,6 +31,6 @@ for (const name of names) {
     receiver.open(0);
     const [run, splitter] = [new AirRun(receiver), new LineSplitter()];
     const entries = splitter.push(example(`${name}.air`)).flatMap((line) => [...run.take(line)]);
-    assert.equal([...entries, ...receiver.close()].join(''), example(`${name}.log`), name);
+    assert.equal([...entries, ...receiver.close()].map(({ log }) => log).join(''), example(`${name}.log`), name);
 }
 console.log(`all ${names.length} logs of examples/ are as they should be`);

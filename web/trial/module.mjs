@@ -12,12 +12,12 @@ import { frameAt, framesIn, mp3PiecesOf } from '../hear/mp3.js';
 import { oggOf } from '../hear/ogg.js';
 import { layoutOf, samplesOf } from '../hear/wave.js';
 import { choicesOf, USUAL_TUNING } from '../keep/choices.js';
-import { KeptReceiver } from '../keep/kept.js';
 import { StoreFault } from '../keep/store.js';
 import { AirRun, LineSplitter, readLine } from '../receiver/air.js';
 import { entryAt, isGood, jsonOf, momentOf, readLog } from '../receiver/entries.js';
 import { MAX_ENTRY, Receiver, ReceiverFault, ROOM, Status } from '../receiver/receiver.js';
 import { EMPTY_STATE, readState, refusedIn, stateAt, stateRefusing, stateWith, writeState } from '../receiver/state.js';
+import { joined, keptOver as over, NOW, printed, storeOf } from './over.mjs';
 import { flacFile, M4A, m4aTimes, OGGS, oggTimes } from './packed.mjs';
 import { headOf, waveOf } from './waves.mjs';
 
@@ -28,6 +28,7 @@ const FAR = 32503680000; // later than every moment
 const [, , modulePath, program] = process.argv;
 const module = readFileSync(modulePath);
 const example = (name) => readFileSync(new URL(name, EXAMPLES), 'latin1');
+const keptOver = (store) => over(module, store);
 const names = readdirSync(EXAMPLES).filter((name) => name.endsWith('.log')).map((name) => name.slice(0, -4));
 
 /** The lines of an air file, those of elements that follow each other on a channel joined to one. */
@@ -67,7 +68,7 @@ async function triesExamples() {
     for (const name of names) {
         for (const piece of PIECES) {
             receiver.open(0);
-            const log = [...logInPieces(receiver, example(`${name}.air`), piece), ...receiver.close()].join('');
+            const log = joined([...logInPieces(receiver, example(`${name}.air`), piece), ...receiver.close()]);
             assert.equal(log, example(`${name}.log`), `${name}, in pieces of ${piece}`);
         }
     }
@@ -86,7 +87,7 @@ async function triesTextInPieces() {
                 for (const line of splitter.push(air.slice(at, at + piece))) entries.push(...run.take(line));
             }
             assert.equal(run.withoutEffect, 0);
-            const log = [...entries, ...receiver.close()].join('');
+            const log = joined([...entries, ...receiver.close()]);
             assert.equal(log, example(`${name}.log`), `${name}, its text in pieces of ${piece}`);
         }
     }
@@ -100,7 +101,7 @@ async function triesWeek() {
             receiver.openFrom(state);
             const entries = logInPieces(receiver, example(`week/${day}.air`), piece);
             state = receiver.save();
-            const log = [...entries, ...receiver.close()].join('');
+            const log = joined([...entries, ...receiver.close()]);
             assert.equal(log, example(`week/${day}.log`), `week/${day}, in pieces of ${piece}`);
             assert.equal(state, example(`week/${day}.state`), `week/${day}, in pieces of ${piece}`);
         }
@@ -157,48 +158,6 @@ async function triesFaults() {
     assert.equal(faultOf(() => receiver.hear(3, new Uint8Array(1))), Status.NO_CHANNEL);
     assert.equal(faultOf(() => receiver.hear(0, Uint8Array.of(2))), Status.NO_ELEMENT);
     receiver.abandon();
-}
-
-/** A store in memory, in place of the browser's: what was kept last, and all messages. */
-function storeOf(state = undefined, messages = []) {
-    const store = {
-        state,
-        messages: new Map(messages.map((message) => [message.id, message])),
-        async read(last = 0) {
-            return { state: store.state, messages: [...store.messages.values()].filter(({ id }) => !(id <= last)) };
-        },
-        async keep({ state: next, messages: changed = [], isAnew = false, aside }, onGone) {
-            if (isAnew) store.messages.clear();
-            store.aside ??= aside;
-            store.state = next;
-            for (const message of changed) store.messages.set(message.id, { ...message });
-            if (store.gone) onGone(store.gone);
-        },
-    };
-    return store;
-}
-
-const NOW = 1735700000;
-
-/** A receiver over a store, and what it told. */
-async function keptOver(store) {
-    const told = { faults: [], added: [] };
-    const kept = new KeptReceiver([await Receiver.load(module), await Receiver.load(module)], store, {
-        fault: (fault) => told.faults.push(fault.message),
-        added: (added) => told.added.push(...added),
-        changed: () => {},
-    });
-    await kept.open(NOW);
-    return { kept, told };
-}
-
-/** What a receiver prints of an air file, and how many messages of it were new, known and refused. */
-async function printed({ kept, told }, air) {
-    const before = told.added.length;
-    const run = kept.begin(NOW);
-    for (const line of air.split('\n').slice(0, -1)) kept.take(line);
-    await kept.endOfSound(NOW);
-    return { log: told.added.slice(before).map(({ log }) => log).join(''), ...run.counts };
 }
 
 /** What is kept goes on in another receiver: nothing is printed again, and a log is taken up. */

@@ -17,12 +17,13 @@ import * as live from './page/live.mjs';
 import * as long from './page/long.mjs';
 import * as looks from './page/looks.mjs';
 import * as packed from './page/packed.mjs';
+import * as pictured from './page/pictured.mjs';
 import * as pieces from './page/pieces.mjs';
 import * as queue from './page/queue.mjs';
 import * as store from './page/store.mjs';
 import * as watched from './page/watched.mjs';
 
-const TRIALS = { files, packed, queue, long, pieces, live, store, alarm, looks, lacking, follow, watched };
+const TRIALS = { files, packed, queue, long, pieces, live, store, alarm, looks, pictured, lacking, follow, watched };
 
 const [, , kind, program, room, pictures, ...names] = process.argv;
 const address = pathToFileURL(`${room}/navtex.html`).href;
@@ -37,14 +38,15 @@ async function started(name, options = []) {
 }
 
 for (const [name, { options, trials, isOpened = true }] of Object.entries(TRIALS)) {
-    if ((names.length > 0 && !names.includes(name)) || trials(kind).length === 0) continue;
+    const chosen = names.length > 0 && !names.includes(name) ? [] : trials(kind, pictures);
+    if (chosen.length === 0) continue;
     const browser = await started(name, options?.(room));
     try {
         const begun = performance.now();
         const tab = await browser.tab();
         if (isOpened) await tab.openPage(address);
         const given = { browser, tab, room, address, kind, pictures };
-        for (const trial of trials(kind)) {
+        for (const trial of chosen) {
             try {
                 await trial(given);
             } catch (fault) {
@@ -53,7 +55,7 @@ for (const [name, { options, trials, isOpened = true }] of Object.entries(TRIALS
             }
         }
         assert.deepEqual(tab.errors, []);
-        const tried = trials(kind).map((trial) => trial.name.replace(/^tries/, '')).join(', ');
+        const tried = chosen.map((trial) => trial.name.replace(/^tries/, '')).join(', ');
         console.log(`ci/web: ${kind}: ${name}: ${tried}; ${((performance.now() - begun) / 1000).toFixed(0)} s`);
     } finally {
         await browser.stop();

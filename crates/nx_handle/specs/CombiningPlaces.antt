@@ -7,7 +7,6 @@ use Rattle.nx_combine.specs.CombinedPrinting.{HasPrintedLastHolding, combined_ho
 use Rattle.nx_combine.specs.CombinedReceiver.{LeavesHolding, StandsAfterAllHolding, receiver_in}
 use Rattle.nx_combine.specs.CombinedReceiver.{text_over}
 use Rattle.nx_combine.specs.FamilyPlaces.{BelongsTo, LentFamily, held_in}
-use Rattle.nx_handle.specs.FamilyRooms.{OneCombining}
 use Rattle.nx_handle.specs.PlaceKinds.{PlaceKind}
 use Rattle.nx_handle.specs.PlainPlaces.{content, no_start}
 use Rattle.nx_handle.specs.declared.combining_place.CombiningState.{CombiningState}

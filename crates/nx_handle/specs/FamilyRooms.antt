@@ -1,6 +1,6 @@
 -- What a room for the families of a channel does with a receiver whose families lie in it (this
 -- profile).
-use Rattle.std.specs.Prelude.{◌≡◌, List, [], ◌++◌, length, IfSome, Option, Some}
+use Rattle.std.specs.Prelude.{◌≡◌, List, ◌++◌, length, IfSome, Option, Some}
 use Rattle.nx_memory.specs.declared.memories.entry.MemoryEntry.{MemoryEntry}
 use Rattle.nx_copies.specs.Events.{Event, Start}
 use Rattle.nx_copies.specs.copies.FoundCopies.{TaggedCopy}

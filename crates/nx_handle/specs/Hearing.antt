@@ -82,7 +82,8 @@ pub record HearsBytes {P : Type 0} (kind : PlaceKind P) (channel : ℕ) (old new
 
 -- Hearing elements: the status has its cause. Where all is done, they are heard, and the bytes of
 -- the entry are copied into the room, which has room for them. Else nothing is heard, the receiver
--- stays as it was, and nothing is copied. Its channels stay, and so does the room for their families.
+-- stays as it was, and nothing is copied. Its channels stay, and so does the room for their
+-- families.
 pub record AnswersHearing {P : Type 0} (kind : PlaceKind P) (channel : ℕ) (bytes : List ℕ)
     (old new : List P) (heard : ℕ) (log : Room) (answer : ℕ)
     : Type 0 where

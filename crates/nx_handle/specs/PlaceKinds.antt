@@ -15,12 +15,13 @@ use Rattle.nx_receiver.specs.ChannelReceiver.{IsReceiver, ReceiverKind, TakesEve
 -- closed. `families` is for how many families it has room, and `vacant` which room that is: the
 -- place once it is closed, with nothing in its room.
 --
--- With so many families held, `printing` is what the receiver in it prints. In `stands held start
--- place events log` that receiver hears, stands after these events, which begin with this start, and
--- handed out this log. `start_of` is with what it starts where it has heard nothing yet, and
--- `text_of` the text of the entry that it handed out last, until it hears more. `leaves` is what is
--- saved of it. In `sendings held start events log n` the last copy of this log, which was handed
--- out with these events, is put together from so many sendings.
+-- `printing held` is what the receiver in it prints, where so many families are held. In `stands
+-- held start place events log` that receiver hears, stands after these events, which begin with
+-- this start, and handed out this log. `start_of` is with what it starts where it has heard nothing
+-- yet, and `text_of` the text of the entry that it handed out last, until it hears more. `leaves
+-- held start events saved` says what is saved of it after these events. In `sendings held start
+-- events log n` the last copy of this log, which was handed out with these events, is put together
+-- from n sendings.
 pub record PlaceKind (P : Type 0) : Type 1 where
   pub is_hearing : P → Bool
   pub is_closed : P → Bool
@@ -74,11 +75,11 @@ pub record HasTaken {P : Type 0} (kind : PlaceKind P) (moment : ℕ) (old new : 
   pub now : kind.is_hearing new ≡ true
   pub room : kind.shut new ≡ kind.shut old
 
--- The laws of a kind. Where a receiver stands in a place, it is a receiver of a channel, which hears
--- there, and the place has room for the families that are held. What hears isn't closed. Shutting a
--- place closes it, and its room stays; a closed one stays as it is. What stands after nothing can
--- stand so with another start too, that has no entry. A receiver can take any moment. Where no
--- element was given the end prints nothing more.
+-- The laws of a kind. Such places are receivers of a channel. Where one stands it hears, and has
+-- room for the families that are held. What hears isn't closed. Shutting a place closes it, and its
+-- room stays; a closed one stays as it is. Where a receiver stands after nothing, one does with
+-- another start too, that has no entry. A receiver can take any moment. Where no element was given
+-- the end prints nothing more.
 pub record IsPlaceKind {P : Type 0} (kind : PlaceKind P) : Type 0 where
   pub receiver : (held : ℕ) → IsReceiver (receiver_of kind held)
   pub hears : (held : ℕ) (start : Start) (place : P) (events : List Event)

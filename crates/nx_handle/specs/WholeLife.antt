@@ -1,5 +1,5 @@
 -- The whole life of a receiver between calls (this profile).
-use Rattle.std.specs.Prelude.{◌≡◌, ℕ, List, [], ◌∷◌, ◌++◌, map, true}
+use Rattle.std.specs.Prelude.{◌≡◌, ℕ, List, [], ◌∷◌, ◌++◌, map}
 use Rattle.std.specs.List.{flat_map}
 use Rattle.nx_copies.specs.copies.Log.{IsLog}
 use Rattle.nx_copies.specs.copies.Shares.{Given, MarkedCopy, Starts}

@@ -41,7 +41,8 @@ pub fn each_call_is_a_step<P: KeptPlace>()
 {}
 
 /// What a receiver handed out since it was opened, and by closing, is the log of all that was given
-/// to it, with as many families a channel as there was room for. That is the moment at which it was opened, and what its calls gave, in order.
+/// to it. That is the moment at which it was opened, and what its calls gave, in order. As many
+/// families are held a channel as there was room for.
 pub fn a_whole_life_has_its_log<P: KeptPlace>()
     ensures log { (held moment : ℕ) (closed first last end : List P) (steps : List LifeStep)
         (texts : List (List ℕ)) → HaveRoom P.kind held closed

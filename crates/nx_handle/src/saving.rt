@@ -30,13 +30,15 @@ use nx_memory::{MAX_STATE_LINE, PlainRecall, Saved, SavedSet, Selection, StateRe
 
 /// Copies the text of a state into the caller's room, with which `open_from` goes on: of each
 /// channel the last 200 entries, and what is selected now; of a channel that the receiver doesn't
-/// have, nothing. Copies that stand open are no part of it. It has at most 11,001 bytes.
+/// have, nothing. Copies that stand open are no part of it, nor are families. It has at most
+/// 11,001 bytes.
 ///
 /// `Closed` where the receiver is closed, or its end has begun; then nothing is copied. Else
 /// `NoRoom` where there is no room for all of the text, whose first bytes stand in the room then;
 /// else `Done`. `written` is the length of the whole text. The receiver stays as it was.
 pub fn save<P: KeptPlace>(places: &[P], state: &mut [u8], written: &mut usize) -> u32
-    ensures { AnswersSaving P.kind places.now places.now (room state.old state.new written.new) result }
+    ensures { AnswersSaving P.kind places.now places.now
+        (room state.old state.new written.new) result }
 {
     if !all_hear(places) {
         copy_out(&[], state, written);

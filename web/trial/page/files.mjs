@@ -2,13 +2,15 @@
 import assert from 'node:assert/strict';
 import { existsSync, readFileSync, utimesSync, writeFileSync } from 'node:fs';
 import { setTimeout as pause } from 'node:timers/promises';
+import { NOISY, noisySendings } from '../noisy.mjs';
 import { bitsOf, example, path, tonesOf, waveOf } from '../waves.mjs';
 
 async function triesAirFile({ tab }) {
     assert.deepEqual(await tab.hear(path('heard-badly.air')),
-        ['heard-badly.air: 2 messages heard: 2 new, 0 known, 0 refused; 1 of the new not whole.']);
+        ['heard-badly.air: 1 message heard: 1 new, 0 known, 0 refused.'], 'twice in one sound');
     assert.deepEqual(await tab.titles(), ['New EA01: station E, A navigational warning, number 01']);
-    assert.match((await tab.textsOf('#list .facts'))[0], /complete, none of 25 letters lost$/, 'the best copy');
+    assert.match((await tab.textsOf('#list .facts'))[0], /complete, none of 25 letters lost, from 2 sendings$/,
+        'the best copy');
     assert.deepEqual(await tab.textsOf('#list summary'), ['1 other copy of it, 1 not read yet']);
     assert.equal((await tab.textsOf('#list .copies mark.lost')).length, 1);
     assert.match(await tab.textOf('look'), /ZCZC EA01/);
@@ -46,6 +48,56 @@ async function triesRecording({ tab, room }) {
     await tab.set('began', '2025-01-04 00:40');
     assert.match((await tab.hear(file))[0], /2 messages heard: 0 new, 2 known/);
     assert.match((await tab.faults())[0], /^The time of this sound had no effect: the time is before the one in force/);
+    await tab.forgetFaults();
+}
+
+/** Hears samples as a recording that began at a time: the line of its end. */
+async function hearSamples({ tab, room }, name, samples, began) {
+    writeFileSync(`${room}/${name}.wav`, waveOf([samples], { rate: 8000 }));
+    await tab.set('began', began);
+    return (await tab.hear(`${room}/${name}.wav`))[0];
+}
+
+const FIRST = '#list > li:first-child article >'; // in the first message of the list
+
+/** Two recordings of one message, each without another letter: what they are put together to takes the place of
+ *  the first, says so, and is New again. So it is over a reload, and then none of it comes anew. */
+async function triesTwoRecordings(given) {
+    const { tab } = given;
+    const [first, second] = example('two-halves.air').split(/(?=^T )/m)
+        .map((air) => tonesOf(bitsOf(air), { rate: 8000 }));
+    assert.match(await hearSamples(given, 'first', first, '2025-01-09 00:40'),
+        /^first.wav: 1 message heard: 1 new, 0 known, 0 refused; 1 of the new not whole\./);
+    assert.deepEqual(await tab.textsOf(`${FIRST} pre`), ['*BCDEFGHIJKLMNOPQRSTUVWX']);
+    await tab.press('#list > li:first-child .head button');
+    assert.match((await tab.titles())[0], /^EA01/);
+    assert.match(await hearSamples(given, 'second', second, '2025-01-09 04:40'),
+        /^second.wav: 1 message heard: 1 new, 0 known, 0 refused\./);
+    for (const isLoaded of [false, true]) {
+        if (isLoaded) await tab.loadAgain();
+        assert.match((await tab.titles())[0], /^New EA01/);
+        assert.deepEqual(await tab.textsOf(`${FIRST} pre`), ['ABCDEFGHIJKLMNOPQRSTUVWX']);
+        assert.match((await tab.textsOf(`${FIRST} .facts`))[0],
+            /^2025-01-09 04:40:\d\d UTC, 518 kHz, complete, none of 25 letters lost, from 2 sendings$/);
+        assert.deepEqual(await tab.textsOf(`${FIRST} .replaced`),
+            ['Better than the copy before it (complete, 1 of 25 letters lost).']);
+        assert.match((await tab.textsOf('#list > li:first-child .copies .facts'))[0], /complete, 1 of 25 letters lost$/);
+    }
+    assert.match(await hearSamples(given, 'third', second, '2025-01-09 08:40'), /1 message heard: 0 new, 1 known, 0 refused/);
+    await tab.forgetFaults();
+}
+
+/** Two recordings with noise, of which each has holes. */
+async function triesNoise(given) {
+    const { tab } = given;
+    const lines = [];
+    for (const [at, samples] of noisySendings().entries()) {
+        lines.push(await hearSamples(given, `noisy-${at}`, samples, `2025-01-13 0${4 * at}:40`));
+    }
+    assert.match(lines[0], /: 1 message heard: 1 new, 0 known, 0 refused; 1 of the new not whole\./);
+    assert.match(lines[1], /: 1 message heard: 1 new, 0 known, 0 refused\./);
+    assert.equal((await tab.textsOf(`${FIRST} pre`))[0], NOISY.text.trim());
+    assert.match((await tab.textsOf(`${FIRST} .facts`))[0], /complete, none of 68 letters lost, from 2 sendings$/);
     await tab.forgetFaults();
 }
 
@@ -177,8 +229,8 @@ async function triesNoRequests({ tab, address }) {
     assert.deepEqual(tab.requests.filter((asked) => asked !== address), []);
 }
 
-const all = [triesAirFile, triesReload, triesRecording, triesEnds, triesWaves, triesRefusal, triesCommands,
-    triesWindowsFiles, triesFaults];
+const all = [triesAirFile, triesReload, triesRecording, triesTwoRecordings, triesNoise, triesEnds, triesWaves, triesRefusal,
+    triesCommands, triesWindowsFiles, triesFaults];
 
 /** What a Firefox gives no trial: files that are saved, and what the network was asked for. */
 export const trials = (kind) => (kind === 'chromium' ? [...all, triesLogs, triesNoRequests] : all);

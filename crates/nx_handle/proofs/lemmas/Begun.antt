@@ -1,10 +1,10 @@
 -- Channels that begin with what is saved of them.
-use Rattle.std.proofs.Common.{◌≡◌, ◌<◌, ◌≤◌, ◌+◌, inl, inr, ℕ, zero, suc, List, [], length, slice_set, Some, arith, refl, sym, ap, ◌∙◌, subst}
+use Rattle.std.proofs.Common.{◌≡◌, ◌<◌, ◌≤◌, ◌+◌, inl, inr, ℕ, zero, suc, List, [], length, slice_set, Some, arith, refl, sym, ◌∙◌, subst}
 use Rattle.std.proofs.lemmas.Bool.{cases_lt}
 use Rattle.nx_fec.specs.air_files.Channels.{channel_number}
 use Rattle.nx_fec.specs.declared.air_files.channel.Channel.{Channel}
 use Rattle.nx_fec.specs.declared.air_files.channel.Channel.TheVariants.{Zero, One, Two}
-use Rattle.nx_copies.specs.copies.Shares.{saved_of, start_on, starts_from}
+use Rattle.nx_copies.specs.copies.Shares.{start_on, starts_from}
 use Rattle.nx_memory.specs.Saved.{SavedStates}
 use Rattle.nx_receiver.specs.air_file_runs.State.{BeginsWith}
 use Rattle.nx_handle.specs.Life.{HasHeard}
@@ -12,7 +12,7 @@ use Rattle.nx_handle.specs.PlaceKinds.{HasBegun, IsPlaceKind, PlaceKind}
 use Rattle.nx_handle.specs.Places.{HaveRoom, place_on}
 use Rattle.nx_handle.specs.Saving.{HasNoMore}
 use Rattle.nx_handle.specs.private.Opening.{BeginsIn, ShutSame}
-use Rattle.nx_handle.proofs.lemmas.Heard.{BeginsOn, begun-in}
+use Rattle.nx_handle.proofs.lemmas.Heard.{begun-in}
 use Rattle.nx_handle.proofs.lemmas.New.{has-begun, room-stays}
 use Rattle.nx_handle.proofs.lemmas.Places.{number-is, room-kept, set-here, set-there}
 use Rattle.nx_handle.proofs.lemmas.Saving.{begins-all, begins-as}

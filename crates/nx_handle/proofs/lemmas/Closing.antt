@@ -1,6 +1,6 @@
 -- What closing answers, and what the ends print.
-use Rattle.std.proofs.Common.{◌≡◌, ◌≢◌, ◌<◌, ◌≤◌, ◌+◌, inl, inr, ℕ, zero, suc, Bool, true, false, List, [], ◌∷◌, ◌++◌, length, map, slice_get, slice_set, arith, refl, sym, ap, ◌∙◌, subst, append-nil, Option, Some, None}
-use Rattle.std.specs.List.{flat_map, list_all}
+use Rattle.std.proofs.Common.{◌≡◌, ◌≢◌, ◌<◌, ◌≤◌, ◌+◌, inl, inr, ℕ, Bool, true, false, List, [], ◌∷◌, ◌++◌, length, map, slice_get, slice_set, arith, refl, sym, ap, ◌∙◌, subst, append-nil, Option, Some}
+use Rattle.std.specs.List.{flat_map}
 use Rattle.std.proofs.lemmas.Bool.{cases_lt, true≢false}
 use Rattle.std.proofs.lemmas.Grind.{common_steps}
 use Rattle.nx_fec.specs.air_files.Channels.{channel_number}
@@ -17,7 +17,7 @@ use Rattle.nx_handle.specs.Places.{KeepsRoom, all_closed, all_hear, place_on}
 use Rattle.nx_handle.specs.Receivers.{one_on}
 use Rattle.nx_handle.specs.Status.{number_of}
 use Rattle.nx_handle.specs.CallerRoom.{IsCopiedOut, Room}
-use Rattle.nx_handle.proofs.lemmas.Places.{each-is, one-or-other, past, rooms-same, set-here, set-there, shut-closed, some-is, there, within}
+use Rattle.nx_handle.proofs.lemmas.Places.{each-is, one-or-other, past, rooms-same, set-here, set-there, some-is, there, within}
 
 open-status : (capacity : ℕ) → 4163 ≤ capacity → 0 ≡ number_of (closing_status false capacity)
 open-status capacity enough = grind (arith, common_steps)

@@ -1,5 +1,5 @@
 -- What a receiver stands after, by what is done in its places.
-use Rattle.std.proofs.Common.{◌≡◌, ◌≢◌, ◌<◌, ◌≤◌, inl, inr, ℕ, Bool, false, true, cond, List, [], ◌∷◌, ◌++◌, length, map, slice_get, slice_set, Some, append-nil, arith, refl, sym, ap, ◌∙◌, subst}
+use Rattle.std.proofs.Common.{◌≡◌, ◌<◌, ◌≤◌, inl, inr, ℕ, Bool, false, cond, List, [], ◌∷◌, ◌++◌, length, slice_set, Some, append-nil, arith, refl, sym, ap, ◌∙◌, subst}
 use Rattle.std.proofs.lemmas.Bool.{cases_lt}
 use Rattle.nx_fec.specs.air_files.Channels.{channel_number, same_channel}
 use Rattle.nx_fec.specs.declared.air_files.channel.Channel.{Channel}
@@ -15,7 +15,7 @@ use Rattle.nx_receiver.proofs.lemmas.listening.Listener.{on-all}
 use Rattle.nx_handle.specs.Hearing.{HearsElements}
 use Rattle.nx_handle.specs.private.Hearing.{HearsOn}
 use Rattle.nx_handle.specs.Life.{HasHeard}
-use Rattle.nx_handle.specs.PlaceKinds.{HasTaken, IsPlaceKind, PlaceKind, TakesEventIn, receiver_of}
+use Rattle.nx_handle.specs.PlaceKinds.{IsPlaceKind, PlaceKind, TakesEventIn, receiver_of}
 use Rattle.nx_handle.specs.Places.{HasChannel, place_on}
 use Rattle.nx_handle.specs.Receivers.{Listening, one_on}
 use Rattle.nx_handle.specs.private.Receivers.{three}

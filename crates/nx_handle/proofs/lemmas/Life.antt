@@ -14,7 +14,7 @@ use Rattle.nx_copies.specs.copies.Shares.{Given, MarkedCopy, Starts, all_at_zero
 use Rattle.nx_copies.proofs.lemmas.printing.Log.{logs_join, no-log, one-log}
 use Rattle.nx_handle.specs.Closing.{HandsOut, HasEnded}
 use Rattle.nx_handle.specs.Hearing.{AnswersHearing, elements_of}
-use Rattle.nx_handle.specs.Life.{EndsWith, HasHeard}
+use Rattle.nx_handle.specs.Life.{EndsWith}
 use Rattle.nx_handle.specs.PlaceKinds.{IsPlaceKind, PlaceKind}
 use Rattle.nx_handle.specs.Places.{HaveRoom, all_closed, all_hear}
 use Rattle.nx_handle.specs.Opening.{AnswersMoment, AnswersOpening}

@@ -1,5 +1,5 @@
 -- A moment that is set channel by channel.
-use Rattle.std.proofs.Common.{◌≡◌, ◌<◌, ◌≤◌, inl, inr, ℕ, zero, suc, ◌+◌, true, List, [], ◌∷◌, length, map, slice_get, slice_set, Some, arith, refl, sym, ap, ap₂, ◌∙◌, subst}
+use Rattle.std.proofs.Common.{◌≡◌, ◌<◌, inl, inr, ℕ, suc, ◌+◌, true, List, [], ◌∷◌, length, map, slice_get, slice_set, Some, arith, refl, sym, ap, ap₂, ◌∙◌, subst}
 use Rattle.std.proofs.lemmas.Bool.{cases_lt}
 use Rattle.nx_receiver.specs.Moments.{Refuses}
 use Rattle.nx_receiver.specs.declared.fault.MomentFault.{MomentFault}
@@ -7,7 +7,7 @@ use Rattle.nx_handle.specs.PlaceKinds.{HasTaken, PlaceKind}
 use Rattle.nx_handle.specs.Places.{all_hear}
 use Rattle.nx_handle.specs.private.Moments.{MomentsTaken, RefusesNext}
 use Rattle.nx_handle.specs.private.Opening.{ShutSame}
-use Rattle.nx_handle.proofs.lemmas.Places.{each-is, set-here, set-long, set-there, some-is, there, within}
+use Rattle.nx_handle.proofs.lemmas.Places.{each-is, set-here, set-long, set-there, some-is}
 
 -- none took it yet
 pub none-taken : {P : Type 0} (kind : PlaceKind P) (moment : ℕ) (places : List P)

@@ -1,14 +1,13 @@
 -- Channels that begin with nothing.
-use Rattle.std.proofs.Common.{◌≡◌, ◌≢◌, ◌<◌, ◌≤◌, ◌&&◌, inl, inr, ℕ, zero, suc, ◌+◌, Bool, true, List, [], ◌∷◌, length, map, slice_get, slice_set, Some, arith, refl, sym, ap, ◌∙◌, subst}
+use Rattle.std.proofs.Common.{◌≡◌, ◌<◌, ◌≤◌, ◌&&◌, inl, inr, ℕ, zero, suc, ◌+◌, Bool, true, List, [], ◌∷◌, length, map, slice_get, slice_set, Some, arith, refl, sym, ap, ◌∙◌, subst}
 use Rattle.std.specs.List.{list_all}
 use Rattle.std.proofs.lemmas.Bool.{cases_lt}
 use Rattle.nx_fec.specs.air_files.Channels.{channel_number}
-use Rattle.nx_fec.specs.declared.air_files.channel.Channel.{Channel}
 use Rattle.nx_copies.specs.Events.{Start, none_refused}
 use Rattle.nx_copies.specs.copies.Shares.{all_at_zero, start_on}
 use Rattle.nx_handle.specs.Life.{HasHeard}
 use Rattle.nx_handle.specs.PlaceKinds.{HasBegun, IsPlaceKind, PlaceKind, start_with}
-use Rattle.nx_handle.specs.Places.{HaveRoom, KeepsRoom, all_hear, place_on}
+use Rattle.nx_handle.specs.Places.{HaveRoom, KeepsRoom, all_hear}
 use Rattle.nx_handle.specs.private.Opening.{BeginsIn, HaveBegun}
 use Rattle.nx_handle.proofs.lemmas.Heard.{begun-in}
 use Rattle.nx_handle.proofs.lemmas.Places.{none-is, set-here, set-there, some-is, there, within}

@@ -1,5 +1,5 @@
 -- What opening and setting a moment answer.
-use Rattle.std.proofs.Common.{◌≡◌, ◌≢◌, ◌<◌, ◌≤◌, inl, inr, ℕ, zero, suc, Bool, true, false, List, [], length, map, slice_get, Some, arith, refl, sym, ap, ◌∙◌, subst}
+use Rattle.std.proofs.Common.{◌≡◌, ◌<◌, ◌≤◌, inl, inr, ℕ, zero, suc, true, List, [], length, map, slice_get, Some, arith, refl, sym, ap, ◌∙◌, subst}
 use Rattle.std.proofs.lemmas.Bool.{cases_lt}
 use Rattle.std.proofs.lemmas.Grind.{common_steps}
 use Rattle.nx_fec.specs.declared.air_files.channel.Channel.TheVariants.{Zero, One, Two}
@@ -21,7 +21,7 @@ use Rattle.nx_handle.specs.private.Opening.{HaveBegun, ShutSame, moment_told}
 use Rattle.nx_handle.proofs.lemmas.Heard.{moment-in}
 use Rattle.nx_handle.proofs.lemmas.Moments.{moments-shut}
 use Rattle.nx_handle.proofs.lemmas.New.{all-new, room-stays}
-use Rattle.nx_handle.proofs.lemmas.Places.{closed-again, long-kept, room-kept, rooms-same, same-list, shut-same, some-is, there, within}
+use Rattle.nx_handle.proofs.lemmas.Places.{closed-again, long-kept, room-kept, rooms-same, same-list, some-is, there, within}
 use Rattle.nx_handle.proofs.lemmas.Status.{moment-done, moment-not-done, moment-refused}
 
 -- ---- opening

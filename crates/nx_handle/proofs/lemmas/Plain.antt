@@ -1,5 +1,5 @@
 -- What is done in a plain place.
-use Rattle.std.proofs.Common.{◌≡◌, ℕ, ◌≤◌, List, [], refl, subst, sym}
+use Rattle.std.proofs.Common.{◌≡◌, ℕ, ◌≤◌, List, refl, subst, sym}
 use Rattle.nx_envelope.specs.Moment.{last_moment}
 use Rattle.nx_copies.specs.Events.{Event, Start, at_moment}
 use Rattle.nx_copies.specs.copies.FoundCopies.{TaggedCopy}

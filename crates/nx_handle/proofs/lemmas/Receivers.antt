@@ -1,5 +1,5 @@
 -- What the three receivers stand after, by what each of them does.
-use Rattle.std.proofs.Common.{◌≡◌, ◌<◌, ℕ, ◌+◌, false, List, [], ◌++◌, length, map, take, refl, sym, ap, ◌∙◌, subst, subst₂}
+use Rattle.std.proofs.Common.{◌≡◌, ◌<◌, ℕ, ◌+◌, false, List, [], ◌++◌, length, map, take, refl, sym, ◌∙◌, subst, subst₂}
 use Rattle.std.proofs.lemmas.List.{take_all}
 use Rattle.std.proofs.Common.{arith, Bool}
 use Rattle.nx_fec.specs.Transfers.{count_of}
@@ -175,7 +175,8 @@ module _ {P : Type 0} (kind : PlaceKind P) (laws : IsPlaceKind kind) (held : ℕ
           (hears-more (laws.receiver held) starts was (with_counts new n m) given channel part
           bits copies h.next stood h.behind
           (λ start history log s. goes-on was.elements was.entries n m start history log s)
-          (λ other not. others-stay old channel r was.elements was.entries n m other not) refl refl);
+          (λ other not. others-stay old channel r was.elements was.entries n m other not) refl
+          refl);
       first = λ starts given part copies stood k lt.
           let was = counted old (then_elements given channel part) copies in
           none-before starts was (with_counts new was.elements was.entries) given channel part bits

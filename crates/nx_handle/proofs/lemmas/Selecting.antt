@@ -1,12 +1,11 @@
 -- What selecting answers.
-use Rattle.std.proofs.Common.{◌≡◌, ◌<◌, ◌≤◌, ℕ, Bool, true, false, not, nat_lt, IsTrue, if◌then◌else◌, List, length, map, slice_set, refl, sym, ap, ◌∙◌, subst, Some, arith}
+use Rattle.std.proofs.Common.{◌≡◌, ◌<◌, ◌≤◌, ℕ, Bool, true, false, IsTrue, if◌then◌else◌, List, length, slice_set, refl, sym, ap, ◌∙◌, subst, Some, arith}
 use Rattle.std.proofs.lemmas.Grind.{common_steps}
 use Rattle.nx_fec.specs.air_files.Channels.{channel_number}
 use Rattle.nx_fec.specs.declared.air_files.channel.Channel.{Channel}
 use Rattle.nx_copies.specs.Events as events
 use Rattle.nx_copies.specs.Events.{Command}
 use Rattle.nx_receiver.specs.declared.command.Command.{Command as TheCommand}
-use Rattle.nx_copies.specs.copies.Shares.{Given, MarkedCopy, Starts}
 use Rattle.nx_receiver.specs.Listener.{then_command}
 use Rattle.nx_handle.specs.Life.{HasHeard}
 use Rattle.nx_handle.specs.PlaceKinds.{IsPlaceKind, PlaceKind, SameRoom, TakesEventIn}

@@ -8,7 +8,6 @@ use Rattle.nx_copies.specs.copies.FoundCopies.{TaggedCopy}
 use Rattle.nx_copies.specs.copies.Shares.{copies_on, share, start_on}
 use Rattle.nx_handle.specs.PlaceKinds.{PlaceKind}
 use Rattle.nx_handle.specs.Places.{place_on}
-use Rattle.nx_handle.specs.Receivers.{one_on}
 use Rattle.nx_handle.specs.Sendings.{TellsSendings, sendings_status}
 use Rattle.nx_handle.specs.Status.{number_of}
 use Rattle.nx_handle.proofs.lemmas.Closing.{stands-on}

@@ -1,16 +1,16 @@
 -- A place that combines meets the laws of a kind.
-use Rattle.std.specs.Prelude.{◌≡◌, ℕ, Bool, true, false, List, [], ◌∷◌, ◌++◌, length}
+use Rattle.std.specs.Prelude.{◌≡◌, ℕ, true, false, List, [], ◌∷◌, ◌++◌, length}
 use Rattle.std.proofs.Common.{refl, sym, ap}
 use Rattle.nx_copies.specs.Events.{Event, Start, at_moment, first_setting, setting_after_all}
 use Rattle.nx_copies.specs.copies.FoundCopies.{TaggedCopy}
-use Rattle.nx_receiver.specs.ChannelReceiver.{IsReceiver, TakesEventBy}
+use Rattle.nx_receiver.specs.ChannelReceiver.{IsReceiver}
 use Rattle.nx_combine.specs.CombinedPrinting.{combined_holding}
 use Rattle.nx_combine.specs.CombinedReceiver.{receiver_in}
 use Rattle.nx_combine.specs.FamilyPlaces.{LentFamily, held_in}
 use Rattle.nx_combine.specs.private.CombiningLaws.{combining-receiver}
 use Rattle.nx_combine.proofs.lemmas.Silent.{silent-end, starting_with, with_moment}
 use Rattle.nx_combine.proofs.lemmas.Silent as silent
-use Rattle.nx_handle.specs.CombiningPlaces.{CombiningPlaceView, StandsLent, combining_closed}
+use Rattle.nx_handle.specs.CombiningPlaces.{StandsLent}
 use Rattle.nx_handle.specs.CombiningPlaces.{combining_place, combining_start, state_closed}
 use Rattle.nx_handle.specs.CombiningPlaces.{state_hears}
 use Rattle.nx_handle.specs.PlaceKinds.{IsPlaceKind, receiver_of}

@@ -1,5 +1,5 @@
 -- What only private contracts and proofs cite, beside CombiningPlaces (this profile).
-use Rattle.std.specs.Prelude.{◌≡◌, ℕ, Bool, List, ◌++◌, length, take}
+use Rattle.std.specs.Prelude.{ℕ, Bool, List, ◌++◌, length, take}
 use Rattle.nx_copies.specs.Events.{Event, Start, elements}
 use Rattle.nx_copies.specs.copies.FoundCopies.{TaggedCopy}
 use Rattle.nx_receiver.specs.ChannelReceiver.{HandsOutNoneBeforeBy}

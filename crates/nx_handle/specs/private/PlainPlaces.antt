@@ -1,6 +1,6 @@
 -- A plain place meets the laws of a kind: what it stands after that hears no elements, and what its
 -- end prints.
-use Rattle.std.specs.Prelude.{◌≡◌, ◌≤◌, ℕ, Bool, true, false, List, [], ◌∷◌, ◌++◌, length, map}
+use Rattle.std.specs.Prelude.{◌≡◌, ℕ, Bool, true, false, List, [], ◌++◌, length}
 use Rattle.std.proofs.Common.{arith, refl, sym, ap, ◌∙◌}
 use Rattle.nx_envelope.specs.Copies.{beginnings, copies, ended_copies, header_at_end, headers}
 use Rattle.nx_envelope.specs.private.Reading.{identity_read}

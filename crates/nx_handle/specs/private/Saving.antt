@@ -1,5 +1,5 @@
 -- What only private contracts and proofs cite, beside Saving (this profile).
-use Rattle.std.specs.Prelude.{◌≡◌, ◌≢◌, ◌⊎◌, ℕ, ◌+◌, ◌<◌, List, [], ◌∷◌}
+use Rattle.std.specs.Prelude.{◌≡◌, ◌≢◌, ◌⊎◌, ℕ, ◌<◌, List, [], ◌∷◌}
 use Rattle.std.specs.Prelude.{◌++◌, length, Result, Ok, Err, codes, take}
 use Rattle.nx_code.specs.Reading.{newline}
 use Rattle.nx_memory.specs.Saved.{SavedStates}

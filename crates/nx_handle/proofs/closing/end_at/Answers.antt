@@ -1,4 +1,4 @@
-use Rattle.std.proofs.Common.{◌≡◌, ◌∙◌, [], ◌∷◌, ◌++◌, ap, subst, sym, true}
+use Rattle.std.proofs.Common.{◌∙◌, [], ◌∷◌, ◌++◌, ap, subst, sym, true}
 use Rattle.nx_copies.specs.copies.FoundCopies.{headed_copy}
 use Rattle.nx_copies.specs.copies.Shares.{marked}
 use Rattle.nx_receiver.specs.Receiver.{headed_list}

@@ -1,4 +1,4 @@
-use Rattle.std.proofs.Common.{◌≡◌, ◌∙◌, drop, length}
+use Rattle.std.proofs.Common.{◌∙◌, drop, length}
 use Rattle.nx_combine.specs.CombinedReceiver.{text_over}
 use Rattle.nx_receiver.proofs.lemmas.receiver.Given.{no_head}
 use Rattle.nx_handle.proofs.lemmas.Combining.{fed-finished, fed-more, finished-in, heard-printed, heard-quietly}

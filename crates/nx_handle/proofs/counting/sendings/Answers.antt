@@ -1,4 +1,4 @@
-use Rattle.std.proofs.Common.{◌≡◌, ◌<◌, ◌∙◌, ap, arith, length, Some, refl, subst, sym, true}
+use Rattle.std.proofs.Common.{◌≡◌, ◌<◌, ◌∙◌, ap, arith, length, Some, refl, sym, true}
 use Rattle.nx_fec.specs.air_files.Channels.{channel_number}
 use Rattle.nx_handle.specs.Places.{all_hear}
 use Rattle.nx_handle.specs.Sendings.{sendings_status}

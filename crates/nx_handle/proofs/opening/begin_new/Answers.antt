@@ -1,4 +1,4 @@
-use Rattle.std.proofs.Common.{◌≡◌, ◌<◌, ◌∙◌, [], arith, get_or, length}
+use Rattle.std.proofs.Common.{◌<◌, ◌∙◌, [], arith, get_or, length}
 use Rattle.std.proofs.lemmas.Option.{slice_get-get_or}
 use Rattle.nx_copies.specs.Events.{none_refused}
 use Rattle.nx_handle.specs.PlaceKinds.{start_with}

@@ -1,4 +1,4 @@
-use Rattle.std.proofs.Common.{◌≡◌, ◌∙◌, [], List, ap, ap₂, subst₂}
+use Rattle.std.proofs.Common.{◌≡◌, List, ap₂, subst₂}
 use Rattle.nx_memory.specs.Selection.{Refused}
 use Rattle.nx_memory.specs.declared.memories.entry.MemoryEntry.{MemoryEntry}
 use Rattle.nx_copies.specs.Events.{none_refused}

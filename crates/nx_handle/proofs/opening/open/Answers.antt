@@ -1,4 +1,4 @@
-use Rattle.std.proofs.Common.{◌≡◌, ◌∙◌, [], ap, sym}
+use Rattle.std.proofs.Common.{◌∙◌, [], ap, sym}
 use Rattle.nx_handle.specs.Status.{number_of}
 use Rattle.nx_copies.specs.Events.{none_refused}
 use Rattle.nx_handle.specs.PlaceKinds.{start_with}

@@ -1,4 +1,4 @@
-use Rattle.std.proofs.Common.{◌≡◌, ◌<◌, arith, get_or, length}
+use Rattle.std.proofs.Common.{◌<◌, arith, get_or, length}
 use Rattle.std.proofs.lemmas.Option.{slice_get-get_or}
 use Rattle.nx_handle.proofs.lemmas.Moments.{next-hears, none-taken, refuses-next, taken-more}
 use Rattle.nx_handle.proofs.opening.set_moments.Goals as goal

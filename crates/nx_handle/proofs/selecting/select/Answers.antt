@@ -4,7 +4,7 @@ use Rattle.nx_copies.specs.Events as events
 use Rattle.nx_receiver.specs.Commands.{by_byte, refuses_vital}
 use Rattle.nx_handle.specs.PlaceKinds.{TakesEventIn}
 use Rattle.nx_handle.specs.Selecting.{AnswersSelecting, command_status}
-use Rattle.nx_handle.proofs.lemmas.Places.{each-is, read-at}
+use Rattle.nx_handle.proofs.lemmas.Places.{read-at}
 use Rattle.nx_handle.proofs.lemmas.Selecting.{command-done, selecting-done}
 use Rattle.nx_handle.proofs.selecting.select.Goals as goal
 

@@ -1,4 +1,4 @@
-use Rattle.std.proofs.Common.{◌≡◌, [], ap, length, refl, subst, sym}
+use Rattle.std.proofs.Common.{[], ap, length, refl, subst, sym}
 use Rattle.nx_combine.specs.CombinedReceiver.{StandsAfterAllHolding, receiver_in}
 use Rattle.nx_combine.specs.FamilyPlaces.{held_in}
 use Rattle.nx_handle.specs.PlainPlaces.{content}

@@ -1,4 +1,4 @@
-use Rattle.std.proofs.Common.{◌≡◌, ◌∙◌, ap, sym}
+use Rattle.std.proofs.Common.{◌∙◌, ap, sym}
 use Rattle.nx_handle.specs.CombiningPlaces.{CombiningPlaceView}
 use Rattle.nx_handle.proofs.lemmas.Combining.{sendings-in}
 use Rattle.nx_handle.proofs.combining_place.CombiningPlaceKeptPlace.sendings.Goals as goal

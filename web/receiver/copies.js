@@ -1,10 +1,10 @@
 // Entries of one message, as one: the best of them is shown, and the others stand behind it.
-import { identityOf } from '../receiver/entries.js';
+import { identityOf } from './entries.js';
 
 const APART = 237600; // seconds, 66 hours; what is further apart is another message of that number
 
 /** Whether an entry is better than another one. */
-function isBetter(one, other) {
+export function isBetter(one, other) {
     const [isFull, wasFull] = [one.how === 'full', other.how === 'full'];
     return isFull === wasFull ? one.errors < other.errors : isFull;
 }
