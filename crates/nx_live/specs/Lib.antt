@@ -1,2 +1,4 @@
 pub mod Room
+pub mod Places
 pub mod Lending
+pub mod Answers

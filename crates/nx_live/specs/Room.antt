@@ -1,4 +1,4 @@
--- What lies in the room that a caller lends to a receiver (this profile).
+-- What lies in room that a caller lends (this profile).
 use base.Fml.{Fml, ffalse, ftrue, feq, flt, fsep, froom}
 use base.Stored.{Coded, coded_list}
 use denote.Index.{row}
@@ -8,32 +8,31 @@ use denote.RattleType.{RattleType}
 use denote.RawPtr.{Ptr, block_ptr, null_ptr}
 use Rattle.std.specs.Prelude.{ℕ, zero, suc, ◌+◌, List, length}
 use Rattle.std.specs.Borrow.{full_share}
-use Rattle.nx_handle.specs.contracts.places.Place as place
+use Rattle.nx_combine.specs.contracts.family_place.FamilyPlace as family
 
--- the place of a channel
-abbrev pub place_row : RattleType
-place_row = place.the_row
+-- values lie side by side from an address on
+abbrev pub in_a_row : (R : RattleType) → Ptr → List R.Denot → Fml
+in_a_row R (block_ptr b o) values = row R full_share values b o
+in_a_row R null_ptr values = ffalse
 
-abbrev pub places_coded : Coded (List place_row.Denot)
-places_coded = coded_list place_row.coded
+-- so many values lie so: one or more, and at most so many
+abbrev pub lie : (R : RattleType) → ℕ → Ptr → ℕ → List R.Denot → Fml
+lie R most p count values =
+    fsep (feq ℕ (length values) count)
+    (fsep (flt 0 count) (fsep (flt count (suc most)) (in_a_row R p values)))
 
--- places lie side by side from an address on
-abbrev pub places_at : Ptr → List place_row.Denot → Fml
-places_at (block_ptr b o) places = row place_row full_share places b o
-places_at null_ptr places = ffalse
+-- there is room for so many values side by side
+abbrev pub room_from : RattleType → ℕ → ℕ → ℕ → Fml
+room_from R zero b o = ftrue
+room_from R (suc n) b o = fsep (froom (layout R) b o) (room_from R n b (o + (mem R).size))
 
--- a receiver's places, of which there are one to three
-abbrev pub lends : Ptr → ℕ → List place_row.Denot → Fml
-lends p count places =
-    fsep (feq ℕ (length places) count)
-    (fsep (flt 0 count) (fsep (flt count 4) (places_at p places)))
+abbrev pub room_for : RattleType → Ptr → ℕ → Fml
+room_for R (block_ptr b o) count = room_from R count b o
+room_for R null_ptr count = ffalse
 
--- there is room for so many places side by side
-abbrev pub room_from : ℕ → ℕ → ℕ → Fml
-room_from zero b o = ftrue
-room_from (suc n) b o =
-    fsep (froom (layout place_row) b o) (room_from n b (o + (mem place_row).size))
+-- the place of a family
+abbrev pub family_row : RattleType
+family_row = family.the_row
 
-abbrev pub places_room : Ptr → ℕ → Fml
-places_room (block_ptr b o) count = room_from count b o
-places_room null_ptr count = ffalse
+abbrev pub families_coded : Coded (List family_row.Denot)
+families_coded = coded_list family_row.coded

@@ -1,7 +1,8 @@
-//! The calls of a receiver. Each does what the call of `nx_handle` does that has its name; those
-//! that refuse or accept do what `select` does.
+//! The calls of a receiver. Each does what the call of `nx_handle` does that has its name, with the
+//! places that the receiver has, plain ones or ones that combine; those that refuse or accept do
+//! what `select` does.
 
-ghost use Rattle.std.specs.Prelude.{◌≡◌, length, true};
+ghost use Rattle.std.specs.Prelude.{length};
 ghost use Rattle.nx_copies.specs.Events as events;
 ghost use Rattle.nx_receiver.specs.declared.command.Command.TheVariants.{RefuseStation, AcceptStation, RefuseSubject, AcceptSubject};
 ghost use Rattle.nx_handle.specs.CallerRoom.{room};
@@ -9,13 +10,16 @@ ghost use Rattle.nx_handle.specs.Closing.{AnswersClosing};
 ghost use Rattle.nx_handle.specs.Hearing.{AnswersHearing};
 ghost use Rattle.nx_handle.specs.LogEntry.{AnswersEntry};
 ghost use Rattle.nx_handle.specs.Opening.{AnswersMoment, AnswersOpening};
-ghost use Rattle.nx_handle.specs.Places.{all_closed, all_hear};
+ghost use Rattle.nx_handle.specs.Places.{all_hear};
 ghost use Rattle.nx_handle.specs.Saving.{AnswersOpeningFrom, AnswersSaving};
 ghost use Rattle.nx_handle.specs.Selecting.{AnswersSelecting, command_status};
+ghost use Rattle.nx_live.specs.Answers.{AnswersBy, IsAbandoned, TellsSendingsOf};
 
+use crate::families::LentFamilies;
 use crate::handle::NxLive;
-use crate::lending::{ROOM, ROOM_ALIGNMENT};
-use nx_handle::{LogEntry, Place};
+use crate::lending::{COMBINING_ROOM, FAMILY_ROOM, ROOM, ROOM_ALIGNMENT};
+use nx_combine::FamilyPlace;
+use nx_handle::{CombiningPlace, LogEntry, PlainPlace};
 use nx_receiver::Command;
 
 /// Opens a receiver at a moment, in whole seconds since 1970-01-01 00:00:00 UTC: it has heard
@@ -24,11 +28,20 @@ use nx_receiver::Command;
 /// Where the answer isn't 0, the receiver stays as it was.
 #[unsafe(no_mangle)]
 pub extern "C" fn nx_live_open(receiver: &mut NxLive, moment: u64) -> u32
-    ensures { AnswersOpening moment receiver.old.value receiver.new.value result }
+    ensures { AnswersBy (λ _ kind old new. AnswersOpening kind moment old new result)
+        receiver.old.value receiver.new.value }
 {
-    prove!(size_of::<Place>() == ROOM);
-    prove!(align_of::<Place>() == ROOM_ALIGNMENT);
-    nx_handle::open(receiver.places(), moment)
+    prove!(size_of::<PlainPlace>() == ROOM);
+    prove!(align_of::<PlainPlace>() == ROOM_ALIGNMENT);
+    prove!(size_of::<CombiningPlace<LentFamilies>>() == COMBINING_ROOM);
+    prove!(align_of::<CombiningPlace<LentFamilies>>() == ROOM_ALIGNMENT);
+    prove!(size_of::<FamilyPlace>() == FAMILY_ROOM);
+    prove!(align_of::<FamilyPlace>() == ROOM_ALIGNMENT);
+    if receiver.combines() {
+        nx_handle::open(receiver.combining(), moment)
+    } else {
+        nx_handle::open(receiver.plain(), moment)
+    }
 }
 
 /// Opens a receiver from the state with which these bytes begin: it remembers the state's entries,
@@ -38,19 +51,29 @@ pub extern "C" fn nx_live_open(receiver: &mut NxLive, moment: u64) -> u32
 /// Where the answer isn't 0, the receiver stays as it was.
 #[unsafe(no_mangle)]
 pub extern "C" fn nx_live_open_from(receiver: &mut NxLive, state: &[u8]) -> u32
-    ensures { AnswersOpeningFrom state.now receiver.old.value receiver.new.value result }
+    ensures { AnswersBy (λ _ kind old new. AnswersOpeningFrom kind state.now old new result)
+        receiver.old.value receiver.new.value }
 {
-    nx_handle::open_from(receiver.places(), state)
+    if receiver.combines() {
+        nx_handle::open_from(receiver.combining(), state)
+    } else {
+        nx_handle::open_from(receiver.plain(), state)
+    }
 }
 
 /// Sets the moment from here on, of all channels. Refused where it is past the year 2999, or before
 /// the one in force; the receiver then stays as it was.
 #[unsafe(no_mangle)]
 pub extern "C" fn nx_live_set_moment(receiver: &mut NxLive, moment: u64) -> u32
-    ensures { AnswersMoment moment receiver.old.value receiver.new.value result
-        (all_hear receiver.old.value) }
+    ensures { AnswersBy (λ _ kind old new. AnswersMoment kind moment old new result
+        (all_hear kind old))
+        receiver.old.value receiver.new.value }
 {
-    nx_handle::set_moment(receiver.places(), moment)
+    if receiver.combines() {
+        nx_handle::set_moment(receiver.combining(), moment)
+    } else {
+        nx_handle::set_moment(receiver.plain(), moment)
+    }
 }
 
 /// Hears elements of a channel, by its number, each a byte, 1 for B and 0 for Y: up to and with the
@@ -69,51 +92,107 @@ pub extern "C" fn nx_live_hear(
     log: &mut [u8],
     written: &mut usize,
 ) -> u32
-    ensures { AnswersHearing channel elements.now receiver.old.value receiver.new.value heard.new
-        (room log.old log.new written.new) result }
+    ensures { AnswersBy (λ _ kind old new. AnswersHearing kind channel elements.now old new
+        heard.new (room log.old log.new written.new) result)
+        receiver.old.value receiver.new.value }
 {
-    nx_handle::hear(receiver.places(), channel, elements, heard, log, written)
+    if receiver.combines() {
+        nx_handle::hear(receiver.combining(), channel, elements, heard, log, written)
+    } else {
+        nx_handle::hear(receiver.plain(), channel, elements, heard, log, written)
+    }
+}
+
+/// Tells from how many sendings of its message the entry is put together that a channel, by its
+/// number, handed out last with `nx_live_hear`: 1 where each copy is judged alone. Where the answer
+/// isn't 0, it tells 0.
+#[unsafe(no_mangle)]
+pub extern "C" fn nx_live_sendings(receiver: &mut NxLive, channel: u8, sendings: &mut u64) -> u32
+    ensures { AnswersBy (λ _ kind old new. TellsSendingsOf kind channel old new sendings.new result)
+        receiver.old.value receiver.new.value }
+{
+    if receiver.combines() {
+        nx_handle::sendings(receiver.combining(), channel, sendings)
+    } else {
+        nx_handle::sendings(receiver.plain(), channel, sendings)
+    }
 }
 
 /// Refuses a station, 'A' to 'Z', on a channel, for all its subjects, from here on.
 #[unsafe(no_mangle)]
 pub extern "C" fn nx_live_refuse_station(receiver: &mut NxLive, channel: u8, station: u8) -> u32
-    ensures { AnswersSelecting (command_status channel (length receiver.old.value)
-        (RefuseStation station))
-        (events.refuse_station station) channel receiver.old.value receiver.new.value result }
+    ensures { AnswersBy (λ _ kind old new. AnswersSelecting kind
+        (command_status channel (length old) (RefuseStation station))
+        (events.refuse_station station) channel old new result)
+        receiver.old.value receiver.new.value }
 {
-    nx_handle::select(receiver.places(), channel, Command::RefuseStation(station))
+    if receiver.combines() {
+        nx_handle::select(
+            receiver.combining(),
+            channel,
+            Command::RefuseStation(station),
+        )
+    } else {
+        nx_handle::select(receiver.plain(), channel, Command::RefuseStation(station))
+    }
 }
 
 /// Refuses a station on a channel no longer, from here on.
 #[unsafe(no_mangle)]
 pub extern "C" fn nx_live_accept_station(receiver: &mut NxLive, channel: u8, station: u8) -> u32
-    ensures { AnswersSelecting (command_status channel (length receiver.old.value)
-        (AcceptStation station))
-        (events.accept_station station) channel receiver.old.value receiver.new.value result }
+    ensures { AnswersBy (λ _ kind old new. AnswersSelecting kind
+        (command_status channel (length old) (AcceptStation station))
+        (events.accept_station station) channel old new result)
+        receiver.old.value receiver.new.value }
 {
-    nx_handle::select(receiver.places(), channel, Command::AcceptStation(station))
+    if receiver.combines() {
+        nx_handle::select(
+            receiver.combining(),
+            channel,
+            Command::AcceptStation(station),
+        )
+    } else {
+        nx_handle::select(receiver.plain(), channel, Command::AcceptStation(station))
+    }
 }
 
 /// Refuses a subject on a channel, of all stations, from here on. A, B, D and L can't be refused
 /// (ITU-R M.540).
 #[unsafe(no_mangle)]
 pub extern "C" fn nx_live_refuse_subject(receiver: &mut NxLive, channel: u8, subject: u8) -> u32
-    ensures { AnswersSelecting (command_status channel (length receiver.old.value)
-        (RefuseSubject subject))
-        (events.refuse_subject subject) channel receiver.old.value receiver.new.value result }
+    ensures { AnswersBy (λ _ kind old new. AnswersSelecting kind
+        (command_status channel (length old) (RefuseSubject subject))
+        (events.refuse_subject subject) channel old new result)
+        receiver.old.value receiver.new.value }
 {
-    nx_handle::select(receiver.places(), channel, Command::RefuseSubject(subject))
+    if receiver.combines() {
+        nx_handle::select(
+            receiver.combining(),
+            channel,
+            Command::RefuseSubject(subject),
+        )
+    } else {
+        nx_handle::select(receiver.plain(), channel, Command::RefuseSubject(subject))
+    }
 }
 
 /// Refuses a subject on a channel no longer, from here on.
 #[unsafe(no_mangle)]
 pub extern "C" fn nx_live_accept_subject(receiver: &mut NxLive, channel: u8, subject: u8) -> u32
-    ensures { AnswersSelecting (command_status channel (length receiver.old.value)
-        (AcceptSubject subject))
-        (events.accept_subject subject) channel receiver.old.value receiver.new.value result }
+    ensures { AnswersBy (λ _ kind old new. AnswersSelecting kind
+        (command_status channel (length old) (AcceptSubject subject))
+        (events.accept_subject subject) channel old new result)
+        receiver.old.value receiver.new.value }
 {
-    nx_handle::select(receiver.places(), channel, Command::AcceptSubject(subject))
+    if receiver.combines() {
+        nx_handle::select(
+            receiver.combining(),
+            channel,
+            Command::AcceptSubject(subject),
+        )
+    } else {
+        nx_handle::select(receiver.plain(), channel, Command::AcceptSubject(subject))
+    }
 }
 
 /// Copies the text of a state into the caller's room, with which `nx_live_open_from` goes on: of
@@ -124,10 +203,15 @@ pub extern "C" fn nx_live_accept_subject(receiver: &mut NxLive, channel: u8, sub
 /// stand in the room. The receiver stays as it was.
 #[unsafe(no_mangle)]
 pub extern "C" fn nx_live_save(receiver: &mut NxLive, state: &mut [u8], written: &mut usize) -> u32
-    ensures { AnswersSaving receiver.old.value receiver.new.value
-        (room state.old state.new written.new) result }
+    ensures { AnswersBy (λ _ kind old new. AnswersSaving kind old new
+        (room state.old state.new written.new) result)
+        receiver.old.value receiver.new.value }
 {
-    nx_handle::save(receiver.places(), state, written)
+    if receiver.combines() {
+        nx_handle::save(receiver.combining(), state, written)
+    } else {
+        nx_handle::save(receiver.plain(), state, written)
+    }
 }
 
 /// Ends the elements of all channels, and hands out what their end prints, by channel: one entry a
@@ -139,19 +223,28 @@ pub extern "C" fn nx_live_save(receiver: &mut NxLive, state: &mut [u8], written:
 /// receiver stays as it was.
 #[unsafe(no_mangle)]
 pub extern "C" fn nx_live_close(receiver: &mut NxLive, log: &mut [u8], written: &mut usize) -> u32
-    ensures { AnswersClosing receiver.old.value receiver.new.value
-        (room log.old log.new written.new) result }
+    ensures { AnswersBy (λ _ kind old new. AnswersClosing kind old new
+        (room log.old log.new written.new) result)
+        receiver.old.value receiver.new.value }
 {
-    nx_handle::close(receiver.places(), log, written)
+    if receiver.combines() {
+        nx_handle::close(receiver.combining(), log, written)
+    } else {
+        nx_handle::close(receiver.plain(), log, written)
+    }
 }
 
 /// Closes a receiver, and prints nothing. Its room serves again.
 #[unsafe(no_mangle)]
 pub extern "C" fn nx_live_abandon(receiver: &mut NxLive)
-    ensures closed { all_closed receiver.new.value ≡ true }
-    ensures channels { length receiver.new.value ≡ length receiver.old.value }
+    ensures { AnswersBy (λ _ kind old new. IsAbandoned kind old new)
+        receiver.old.value receiver.new.value }
 {
-    nx_handle::abandon(receiver.places());
+    if receiver.combines() {
+        nx_handle::abandon(receiver.combining());
+    } else {
+        nx_handle::abandon(receiver.plain());
+    }
 }
 
 /// Reads the entry of a log with which the bytes begin, whatever stands behind it: tells what it
