@@ -20,10 +20,15 @@ plain_row = plain_place.the_row
 abbrev pub families_of : families.the_row.Denot → List LentFamily
 families_of lent = lent.value
 
+-- which room they have: that with nothing in it
+abbrev pub vacant_of : families.the_row.Denot → families.the_row.Denot
+vacant_of lent = record { at = lent.at; count = lent.count; value = [] }
+
 -- the place of a channel that combines, with its families
 abbrev pub combining_row : RattleType
 combining_row =
-    combining_place.the_row families.the_row (record { places = families_of })
+    combining_place.the_row families.the_row
+    (record { places = families_of; vacant = vacant_of })
 
 -- the places of a receiver: plain ones, or ones that combine
 pub data Places : Type 0 where

@@ -9,11 +9,10 @@ ghost use Rattle.nx_handle.specs.CallerRoom.{room};
 ghost use Rattle.nx_handle.specs.Closing.{AnswersClosing};
 ghost use Rattle.nx_handle.specs.Hearing.{AnswersHearing};
 ghost use Rattle.nx_handle.specs.LogEntry.{AnswersEntry};
-ghost use Rattle.nx_handle.specs.Opening.{AnswersMoment, AnswersOpening};
-ghost use Rattle.nx_handle.specs.Places.{all_hear};
+ghost use Rattle.nx_handle.specs.Opening.{AnswersOpening};
 ghost use Rattle.nx_handle.specs.Saving.{AnswersOpeningFrom, AnswersSaving};
 ghost use Rattle.nx_handle.specs.Selecting.{AnswersSelecting, command_status};
-ghost use Rattle.nx_live.specs.Answers.{AnswersBy, IsAbandoned, TellsSendingsOf};
+ghost use Rattle.nx_live.specs.Answers.{AnswersBy, IsAbandoned, SetsMomentOf, TellsSendingsOf};
 
 use crate::families::LentFamilies;
 use crate::handle::NxLive;
@@ -65,8 +64,7 @@ pub extern "C" fn nx_live_open_from(receiver: &mut NxLive, state: &[u8]) -> u32
 /// the one in force; the receiver then stays as it was.
 #[unsafe(no_mangle)]
 pub extern "C" fn nx_live_set_moment(receiver: &mut NxLive, moment: u64) -> u32
-    ensures { AnswersBy (λ _ kind old new. AnswersMoment kind moment old new result
-        (all_hear kind old))
+    ensures { AnswersBy (λ _ kind old new. SetsMomentOf kind moment old new result)
         receiver.old.value receiver.new.value }
 {
     if receiver.combines() {

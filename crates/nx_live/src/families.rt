@@ -41,9 +41,11 @@ impl LentFamilies {
 }
 
 impl FamilyRoom for LentFamilies {
-    ghost use Rattle.nx_live.specs.Places.{families_of};
+    ghost use Rattle.nx_live.specs.Places.{families_of, vacant_of};
 
     ghost places = { families_of };
+
+    ghost vacant = { vacant_of };
 
     fn finish(
         &mut self,

@@ -17,10 +17,10 @@ pub const ROOM: usize = 7_464;
 
 /// How many bytes of room each channel needs beside its families, where several sendings are taken
 /// together: `NX_LIVE_COMBINING_CHANNEL` of the header.
-pub const COMBINING_ROOM: usize = 19_856;
+pub const COMBINING_ROOM: usize = 19_864;
 
 /// How many bytes of room each family needs: `NX_LIVE_FAMILY` of the header.
-pub const FAMILY_ROOM: usize = 8_232;
+pub const FAMILY_ROOM: usize = 8_240;
 
 /// The alignment of all that room.
 pub const ROOM_ALIGNMENT: usize = 8;
@@ -71,8 +71,8 @@ pub unsafe extern "C" fn nx_live_lend_1_families(
     unsafe { lend_combining(receiver, room, 1, families, count) }
 }
 
-/// Makes such a receiver of two channels, channel 0 and 1, as `nx_live_lend_1_families` does of one.
-/// There is room for so many families of each channel, one channel's behind another's.
+/// Makes such a receiver of two channels, channel 0 and 1, as `nx_live_lend_1_families` does of
+/// one. There is room for so many families of each channel, one channel's behind another's.
 #[unsafe(no_mangle)]
 pub unsafe extern "C" fn nx_live_lend_2_families(
     receiver: *mut NxLive,

@@ -11,14 +11,14 @@ use Rattle.nx_live.specs.declared.families.LentFamilies.{LentFamilies}
 use Rattle.nx_combine.specs.Families.{most_families}
 use Rattle.nx_live.specs.Room.{family_row, lie}
 use Rattle.nx_live.proofs.lemmas.FamilyValues.{families_out}
-use Rattle.nx_live.specs.Places.{combining_row, families_of}
+use Rattle.nx_live.specs.Places.{combining_row, families_of, vacant_of}
 use Rattle.nx_live.specs.contracts.families.LentFamilies as families
 use Rattle.nx_live.proofs.families.LentFamilies.TheLaws as families_laws
 use Rattle.nx_handle.proofs.combining_place.CombiningPlace.TheLaws as place_laws
 
 abbrev pub combining_laws : Laws combining_row
 combining_laws =
-    place_laws.the_row_laws families.the_row (record { places = families_of })
+    place_laws.the_row_laws families.the_row (record { places = families_of; vacant = vacant_of })
     families_laws.the_row_laws
 
 module _ {M : Type 1} {𝓤 : Ura M} (𝓛 : Logic 𝓤) where

@@ -110,7 +110,8 @@ module _ {M : Type 1} {𝓤 : Ura M} (𝓛 : Logic 𝓤) (at_mem : Memory → SP
         lie_in ! plain_row 3 (block_ptr b o) h.count ws (same ∙ long) least few $
         handle_in ! (block_ptr b o) h.count h.combines (Plain ws) fits (kind ∙ is) $
         rewrite ! 0
-        (λ (p : Ptr). ‵ (Handle.own_val (with p h.count h.combines (Plain ws)) words)) (sym at_b) refl $ done ! in
+        (λ (p : Ptr). ‵ (Handle.own_val (with p h.count h.combines (Plain ws)) words))
+        (sym at_b) refl $ done ! in
         first ! $ blocks ! $
         sets ! (of_opd ! (load ! (through ! refl (fld ! refl (stop !)))
         (look_in ! 1 (sub ! 0 refl (whole !))))) refl (tt, tt) $
