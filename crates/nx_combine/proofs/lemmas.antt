@@ -15,6 +15,7 @@ pub mod Printed
 pub mod Ring
 pub mod Sendings
 pub mod Sent
+pub mod Silent
 pub mod Sure
 pub mod TakerBits
 pub mod TakerPairs

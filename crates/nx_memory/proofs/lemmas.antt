@@ -4,6 +4,7 @@ pub mod Examples
 pub mod Known
 pub mod Letters
 pub mod Loading
+pub mod Renewed
 pub mod Rings
 pub mod Rising
 pub mod StateLaws

@@ -1,7 +1,8 @@
 -- What the entries of a memory are, and what they are to one another, by the conditions of entering
 -- (this profile).
-use Rattle.std.specs.Prelude.{◌≡◌, ◌+◌, ◌<◌, ◌≤◌, true, List, [], ◌∷◌, length}
-use Rattle.std.specs.List.{All}
+use Rattle.std.specs.Prelude.{◌≡◌, ◌+◌, ◌-◌, ◌<◌, ◌≤◌, Bool, true, not, ◌&&◌, nat_lt}
+use Rattle.std.specs.Prelude.{if◌then◌else◌, List, [], ◌∷◌, ◌++◌, length}
+use Rattle.std.specs.List.{All, list_any}
 use Rattle.nx_envelope.specs.Identity.{same_identity}
 use Rattle.nx_memory.specs.declared.memories.entry.MemoryEntry.{MemoryEntry}
 use Rattle.nx_memory.specs.Memory.{most_entries, seconds_known}
@@ -24,3 +25,35 @@ pub record IsContent (content : List MemoryEntry) : Type 0 where
   pub bounded : length content ≤ most_entries
   pub numbered : All (λ entry. 0 < entry.identity.number) content
   pub in_turn : AreInTurn content
+
+-- the moments never fall
+abbrev pub NeverFall : List MemoryEntry → Type 0
+NeverFall [] = Unit {0}
+NeverFall (entry ∷ later) = All (λ other. entry.moment ≤ other.moment) later × NeverFall later
+
+-- the entries of a memory that enters what it knows: there are at most 200, none is numbered 00,
+-- and their moments never fall
+pub record IsRenewedContent (content : List MemoryEntry) : Type 0 where
+  pub bounded : length content ≤ most_entries
+  pub numbered : All (λ entry. 0 < entry.identity.number) content
+  pub in_order : NeverFall content
+
+-- the other bears the identity of the entry, and is less than 66 hours later
+abbrev pub renews : MemoryEntry → MemoryEntry → Bool
+renews entry other =
+    same_identity entry.identity other.identity
+    && nat_lt (other.moment - entry.moment) seconds_known
+
+-- none of its identity stands less than 66 hours later behind the entry
+abbrev pub is_last_known : MemoryEntry → List MemoryEntry → Bool
+is_last_known entry behind = not (list_any (λ other. renews entry other) behind)
+
+-- those entries that pass a test of them and of the entries behind them
+abbrev pub passing : (MemoryEntry → List MemoryEntry → Bool) → List MemoryEntry → List MemoryEntry
+passing test [] = []
+passing test (entry ∷ behind) =
+    (if test entry behind then entry ∷ [] else []) ++ passing test behind
+
+-- of some entries those behind which none of their identity stands less than 66 hours later
+abbrev pub last_known : List MemoryEntry → List MemoryEntry
+last_known entries = passing is_last_known entries

@@ -5,7 +5,7 @@ ghost use Rattle.std.specs.Prelude.{◌≡◌, ℕ, ◌<◌, ◌≤◌, ◌↔�
 ghost use Rattle.nx_code.specs.Lists.{last_of};
 ghost use Rattle.nx_envelope.specs.declared.identity.Identity.{Identity};
 ghost use Rattle.nx_memory.specs.declared.memories.entry.MemoryEntry.{MemoryEntry};
-ghost use Rattle.nx_memory.specs.Content.{IsContent};
+ghost use Rattle.nx_memory.specs.Content.{IsContent, IsRenewedContent, NeverFall, last_known};
 ghost use Rattle.nx_memory.specs.Memory.{IsLive, content_after, is_known, most_entries, newest_moment};
 ghost use Rattle.nx_memory.specs.Table.{identities, index_of, is_recent_moment, moment_of_last};
 ghost use Rattle.nx_envelope.specs.Moment.{last_moment};
@@ -62,6 +62,19 @@ pub fn the_last_entry_tells()
     ensures { (content : List MemoryEntry) (identity : Identity) (moment : ℕ) → IsContent content →
         is_known identity moment content
         ≡ is_recent_moment moment (moment_of_last identity content) }
+{}
+
+/// What an entry told that is left out, the others tell: where the moments never fall, the entries
+/// behind which none of their identity stands less than 66 hours later make the same known as all.
+/// And they are what a memory can hold that enters nothing it knows.
+pub fn the_last_known_tell_all()
+    ensures known { (entries : List MemoryEntry) (identity : Identity) (moment : ℕ) →
+        NeverFall entries
+        → is_known identity moment (last_known entries) ≡ is_known identity moment entries }
+    ensures content { (entries : List MemoryEntry) → IsRenewedContent entries
+        → IsContent (last_known entries) }
+    ensures newest { (entries : List MemoryEntry)
+        → newest_moment (last_known entries) ≡ newest_moment entries }
 {}
 
 /// A text of a state stands for one state, and of one version a state has one text. What is written

@@ -18,7 +18,7 @@ pub use memories::renewing::Renewing;
 pub use memories::renewing_recall::RenewingRecall;
 pub use memories::ring_recall::RingRecall;
 pub use selection::{Selection, Vital, is_vital_subject};
-pub use state::saved::Saved;
+pub use state::saved::{Saved, is_last_known};
 pub use state::saved_line::MAX_STATE_LINE;
 pub use state::saved_set::SavedSet;
 pub use state::state_reader::{StateReader, StateStep};

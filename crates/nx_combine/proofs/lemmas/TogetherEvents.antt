@@ -42,7 +42,7 @@ changes_force first history (command c) a_command = record {
 }
 
 -- the taker with this in force, and the receiver with it
-abbrev taker_with : CombinedTaker → Setting → CombinedTaker
+abbrev pub taker_with : CombinedTaker → Setting → CombinedTaker
 taker_with taker now = record taker {
   copies = record taker.copies { moment = now.moment; selection = now.refused };
 }

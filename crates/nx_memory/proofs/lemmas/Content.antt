@@ -15,7 +15,7 @@ use Rattle.nx_memory.specs.Memory.{most_entries, seconds_known, newest_moment, c
 use Rattle.nx_memory.specs.Memory.{is_recent, is_known}
 
 -- what holds of each of a list and of one more
-All-one : {X : Type 0} (P : X → Type 0) (x : X) → P x → All P (x ∷ [])
+pub All-one : {X : Type 0} (P : X → Type 0) (x : X) → P x → All P (x ∷ [])
 All-one P x h zero d below = h
 All-one P x h (suc k) d below = absurd (omega arith)
 

@@ -1,7 +1,8 @@
 //! A memory in a fixed array, in which what is known can be entered once more.
 
-ghost use Rattle.std.specs.Prelude.{◌≡◌, []};
-ghost use Rattle.nx_memory.specs.Memory.{content_after};
+ghost use Rattle.std.specs.Prelude.{◌≡◌, ◌<◌, ◌≤◌, []};
+ghost use Rattle.nx_memory.specs.Content.{IsRenewedContent};
+ghost use Rattle.nx_memory.specs.Memory.{content_after, newest_moment};
 
 use crate::memories::entry::MemoryEntry;
 use crate::memories::recall::{CAPACITY, Recall, is_recent};
@@ -12,22 +13,22 @@ use std::marker::Model;
 
 /// A memory that looks through all its entries, of which several may bear one identity. So it has
 /// nothing that a forgotten entry could take from a later one. Contracts see it as their list,
-/// oldest first, and it holds nothing else.
+/// oldest first, and it holds nothing else. None is numbered 00, and their moments never fall.
 #[derive(Drop)]
 pub struct RenewingRecall {
     entries: ArrayVec<MemoryEntry, CAPACITY>,
 }
 
 impl Model for RenewingRecall {
-    ghost use Rattle.std.specs.Prelude.{List, length, ◌≤◌};
+    ghost use Rattle.std.specs.Prelude.{List};
     ghost use Rattle.nx_memory.specs.declared.memories.entry.MemoryEntry.{MemoryEntry};
-    ghost use Rattle.nx_memory.specs.Memory.{most_entries};
+    ghost use Rattle.nx_memory.specs.Content.{IsRenewedContent};
 
     ghost Value = { List MemoryEntry };
 
     ghost view = { λ memory. memory.entries.items };
 
-    ghost invariant = { λ memory. length memory.entries.items ≤ most_entries };
+    ghost invariant = { λ memory. IsRenewedContent memory.entries.items };
 
     ghost inverse = { λ content. record { entries = record { items = content } } };
 }
@@ -45,14 +46,17 @@ impl RenewingRecall {
 
     /// The entries, oldest first.
     pub(crate) fn entries(&self) -> &[MemoryEntry]
-        ensures { result.now ≡ self.now }
+        ensures entries { result.now ≡ self.now }
+        ensures content { IsRenewedContent self.now }
     {
         self.entries.as_slice()
     }
 
-    /// Enters the identity with the moment; where there are 200 entries already the oldest is
-    /// forgotten.
+    /// Enters the identity with the moment, which isn't before the newest; where there are 200
+    /// entries already the oldest is forgotten. The number 00 is never entered.
     pub(crate) fn push(&mut self, identity: Identity, moment: u64)
+        requires not_before { newest_moment self.old ≤ moment }
+        requires numbered { 0 < identity.number }
         ensures { self.new ≡ content_after self.old identity moment }
     {
         if self.entries.is_full() {

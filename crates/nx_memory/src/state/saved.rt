@@ -3,12 +3,15 @@
 ghost use Rattle.std.specs.Prelude.{◌≡◌, ◌≤◌, [], length};
 ghost use Rattle.std.specs.FinSet as set;
 ghost use Rattle.nx_envelope.specs.Moment.{last_moment};
+ghost use Rattle.std.specs.List.{list_any};
+ghost use Rattle.nx_memory.specs.Content.{is_last_known, last_known, renews};
 ghost use Rattle.nx_memory.specs.Memory.{entry_at, newest_of, newest_moment};
 ghost use Rattle.nx_memory.specs.Saved.{AreSavedEntries};
 
 use crate::memories::entry::MemoryEntry;
 use crate::memories::listed::Listed;
-use crate::memories::recall::{CAPACITY, Recall};
+use crate::memories::recall::{CAPACITY, Recall, is_recent};
+use crate::memories::renewing_recall::RenewingRecall;
 use crate::selection::Selection;
 use arrayvec::ArrayVec;
 use nx_envelope::Identity;
@@ -79,6 +82,26 @@ impl Saved {
         }
     }
 
+    /// The selection, and of the entries of a memory that enters what it knows those that tell what
+    /// is known: an entry is left out behind which one of its identity stands less than 66 hours
+    /// later. None of them is past the last moment.
+    pub fn of_renewing(selection: &Selection, memory: &RenewingRecall) -> Self
+        requires { newest_moment memory.now ≤ last_moment }
+        ensures refused { result.refused ≡ selection.now }
+        ensures entries { result.entries ≡ last_known memory.now }
+    {
+        let selection = *selection;
+        let all = memory.entries();
+        let mut entries = ArrayVec::new();
+        for place in 0..all.len() {
+            let entry = all[place];
+            if is_last_known(&entry, &all[place + 1..]) {
+                entries.push(entry);
+            }
+        }
+        Saved { selection, entries }
+    }
+
     /// The selection.
     pub fn selection(&self) -> Selection
         ensures selection { result ≡ self.now.refused }
@@ -124,4 +147,20 @@ impl Saved {
             memory.enter(entry.identity, entry.moment);
         }
     }
+}
+
+/// Whether none of its identity stands less than 66 hours later behind an entry.
+pub fn is_last_known(entry: &MemoryEntry, behind: &[MemoryEntry]) -> bool
+    ensures { result ≡ is_last_known entry.now behind.now }
+{
+    !is_renewed(entry, behind)
+}
+
+/// Whether one of its identity stands less than 66 hours later behind an entry.
+fn is_renewed(entry: &MemoryEntry, behind: &[MemoryEntry]) -> bool
+    ensures { result ≡ list_any (λ other. renews entry.now other) behind.now }
+{
+    behind.iter().any(|other| {
+        entry.identity == other.identity && is_recent(entry.moment, other.moment)
+    })
 }

@@ -2,14 +2,17 @@
 
 ghost use Rattle.std.specs.Prelude.{◌≡◌, ◌<◌, ◌≤◌, ◌+◌, Bool, List, [], ◌++◌, length, filter};
 ghost use Rattle.std.specs.FinSet as set;
-ghost use Rattle.std.specs.List.{All, list_any};
+ghost use Rattle.std.specs.List.{All};
 ghost use Rattle.nx_envelope.specs.Moment.{last_moment};
 ghost use Rattle.nx_memory.specs.Saved.{AreSavedEntries};
 ghost use Rattle.nx_memory.specs.declared.memories.entry.MemoryEntry.{MemoryEntry};
-ghost use Rattle.nx_watch.specs.Start.{is_in_order, is_last_known, is_near, passing, remembered_at, renews};
+ghost use Rattle.nx_memory.specs.Content.{passing};
+ghost use Rattle.nx_watch.specs.Start.{is_in_order, is_near, remembered_at};
 
 use arrayvec::ArrayVec;
-use nx_memory::{CAPACITY, MemoryEntry, PlainRecall, Recall, Saved, Selection, is_recent};
+use nx_memory::{
+    CAPACITY, MemoryEntry, PlainRecall, Recall, Saved, Selection, is_last_known, is_recent,
+};
 
 /// What is remembered at a moment of the entries that a log remembers on a channel, at most 200 in
 /// their order. They are chosen in three steps. First, those less than 66 hours after the moment
@@ -26,7 +29,7 @@ pub fn remembered(moment: u64, entries: &[MemoryEntry]) -> Saved
 {
     let near = near_entries(moment, entries);
     let in_order = entries_passing(near.as_slice(), stands_in_order);
-    let last_known = entries_passing(in_order.as_slice(), is_last);
+    let last_known = entries_passing(in_order.as_slice(), is_last_known);
     saved_of(last_known.as_slice())
 }
 
@@ -74,22 +77,6 @@ fn stands_in_order(entry: &MemoryEntry, behind: &[MemoryEntry]) -> bool
     ensures { result ≡ is_in_order entry.now behind.now }
 {
     behind.iter().all(|other| entry.moment <= other.moment)
-}
-
-/// Whether none of its identity stands less than 66 hours later behind an entry.
-fn is_last(entry: &MemoryEntry, behind: &[MemoryEntry]) -> bool
-    ensures { result ≡ is_last_known entry.now behind.now }
-{
-    !is_renewed(entry, behind)
-}
-
-/// Whether one of its identity stands less than 66 hours later behind an entry.
-fn is_renewed(entry: &MemoryEntry, behind: &[MemoryEntry]) -> bool
-    ensures { result ≡ list_any (λ other. renews entry.now other) behind.now }
-{
-    behind.iter().any(|other| {
-        entry.identity == other.identity && is_recent(entry.moment, other.moment)
-    })
 }
 
 /// What is saved where these are the entries of a memory, and everything is selected.

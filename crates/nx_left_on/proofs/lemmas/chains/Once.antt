@@ -37,7 +37,8 @@ use Rattle.nx_copies.proofs.lemmas.locks.Growing.{ended_go_on}
 use Rattle.nx_copies.proofs.lemmas.once.Found.{contains_filter, has_first, no_errors-good}
 use Rattle.nx_copies.proofs.lemmas.once.Rising.{contains_map, one_of_key}
 use Rattle.nx_copies.proofs.lemmas.printing.Logged.{ended_placed}
-use Rattle.nx_watch.specs.Start.{is_in_order, is_last_known, is_near, passing}
+use Rattle.nx_memory.specs.Content.{is_last_known, passing}
+use Rattle.nx_watch.specs.Start.{is_in_order, is_near}
 use Rattle.nx_watch.proofs.lemmas.log.Start.{All-passing}
 use Rattle.nx_left_on.specs.Chain.{ClocksAreNear, HadEnded, IsChain, Judges, Watch}
 use Rattle.nx_left_on.specs.Chain.{all_copies, all_put, copies_in, events_in}

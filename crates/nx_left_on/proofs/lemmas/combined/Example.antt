@@ -42,7 +42,8 @@ use Rattle.nx_promises.proofs.lemmas.listening.ElementLines.{events-lines, event
 use Rattle.nx_receiver.specs.air_file_runs.Listen.{events_on, given_by}
 use Rattle.nx_station.specs.reception.PathExample.{example_message, example_numbers}
 use Rattle.nx_sync.specs.Locks.{IsNow}
-use Rattle.nx_watch.specs.Start.{is_in_order, is_last_known, is_near, passing, remembered_at}
+use Rattle.nx_memory.specs.Content.{is_last_known, passing}
+use Rattle.nx_watch.specs.Start.{is_in_order, is_near, remembered_at}
 use Rattle.nx_watch.specs.Watch.{StandsForEntries, moments_at, starts_at}
 use Rattle.nx_watch.proofs.lemmas.log.CombinedLoggable.{combined-loggable}
 use Rattle.nx_watch.proofs.lemmas.log.Loggable.{end-logged}

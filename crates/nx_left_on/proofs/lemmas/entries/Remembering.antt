@@ -10,7 +10,8 @@ use Rattle.nx_memory.specs.Content.{AreInTurn, IsLater}
 use Rattle.nx_memory.specs.Memory.{newest_moment, seconds_known}
 use Rattle.nx_memory.specs.declared.memories.entry.MemoryEntry.{MemoryEntry}
 use Rattle.nx_memory.proofs.lemmas.Content.{none_later}
-use Rattle.nx_watch.specs.Start.{is_in_order, is_last_known, is_near, passing, remembered_at, renews}
+use Rattle.nx_memory.specs.Content.{is_last_known, passing, renews}
+use Rattle.nx_watch.specs.Start.{is_in_order, is_near, remembered_at}
 
 all-near : (moment newest : ℕ) (entries : List MemoryEntry) → newest < moment + seconds_known
     → All (λ entry. entry.moment ≤ newest) entries → filter (is_near moment) entries ≡ entries

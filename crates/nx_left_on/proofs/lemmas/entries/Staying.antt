@@ -14,7 +14,8 @@ use Rattle.nx_envelope.specs.Identity.{same_identity}
 use Rattle.nx_memory.specs.Memory.{most_entries, newest_moment, seconds_known}
 use Rattle.nx_memory.specs.declared.memories.entry.MemoryEntry.{MemoryEntry}
 use Rattle.nx_memory.proofs.lemmas.Content.{newest_behind}
-use Rattle.nx_watch.specs.Start.{is_in_order, is_last_known, is_near, passing, remembered_at, renews}
+use Rattle.nx_memory.specs.Content.{is_last_known, passing, renews}
+use Rattle.nx_watch.specs.Start.{is_in_order, is_near, remembered_at}
 use Rattle.nx_watch.proofs.lemmas.log.Start.{All-passing, length-passing}
 
 -- an entry of another identity than this one, and not from before it

@@ -14,7 +14,8 @@ use Rattle.nx_memory.specs.Saved.{SavedStates, later_of, newest_of_all}
 use Rattle.nx_memory.specs.declared.memories.entry.MemoryEntry.{MemoryEntry}
 use Rattle.nx_memory.proofs.lemmas.Content.{newest_behind}
 use Rattle.nx_copies.specs.copies.Shares.{MarkedCopy}
-use Rattle.nx_watch.specs.Start.{is_in_order, is_last_known, is_near, passing, remembered_at}
+use Rattle.nx_memory.specs.Content.{is_last_known, passing}
+use Rattle.nx_watch.specs.Start.{is_in_order, is_near, remembered_at}
 use Rattle.nx_watch.specs.Watch.{all_saved_at, starts_at}
 use Rattle.nx_left_on.specs.Shortened.{IsOldAt, LeavesOutOld}
 use Rattle.nx_left_on.proofs.lemmas.chains.Chains.{known-is}

@@ -15,7 +15,8 @@ use Rattle.nx_memory.specs.Memory.{newest_moment}
 use Rattle.nx_memory.specs.Saved.{AreSavedEntries}
 use Rattle.nx_memory.specs.declared.memories.entry.MemoryEntry.{MemoryEntry}
 use Rattle.nx_memory.proofs.lemmas.Content.{newest_behind}
-use Rattle.nx_watch.specs.Start.{is_in_order, is_last_known, is_near, passing, remembered_at, renews}
+use Rattle.nx_memory.specs.Content.{is_last_known, passing, renews}
+use Rattle.nx_watch.specs.Start.{is_in_order, is_near, remembered_at}
 
 -- one more entry, which passes or doesn't
 pub passing-step : (test : MemoryEntry → List MemoryEntry → Bool)

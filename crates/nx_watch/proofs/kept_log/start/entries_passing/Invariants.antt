@@ -1,6 +1,6 @@
 use Rattle.std.proofs.Common.{◌≡◌, ◌≤◌, ◌++◌, Bool, List, drop, length}
 use Rattle.nx_memory.specs.declared.memories.entry.MemoryEntry.{MemoryEntry}
-use Rattle.nx_watch.specs.Start.{passing}
+use Rattle.nx_memory.specs.Content.{passing}
 use Rattle.nx_watch.proofs.kept_log.start.entries_passing.Given as goal
 
 -- those that pass are kept, and those to come

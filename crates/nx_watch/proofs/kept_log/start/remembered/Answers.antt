@@ -1,6 +1,7 @@
 use Rattle.std.proofs.Common.{ap, sym, subst, ◌∙◌}
 use Rattle.nx_memory.specs.Saved.{AreSavedEntries}
-use Rattle.nx_watch.specs.Start.{is_in_order, is_last_known, passing}
+use Rattle.nx_memory.specs.Content.{is_last_known, passing}
+use Rattle.nx_watch.specs.Start.{is_in_order}
 use Rattle.nx_watch.proofs.lemmas.log.Start.{remembered-sound}
 use Rattle.nx_watch.proofs.kept_log.start.remembered.Goals as goal
 
