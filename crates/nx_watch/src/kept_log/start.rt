@@ -6,7 +6,7 @@ ghost use Rattle.std.specs.List.{All};
 ghost use Rattle.nx_envelope.specs.Moment.{last_moment};
 ghost use Rattle.nx_memory.specs.Saved.{AreSavedEntries};
 ghost use Rattle.nx_memory.specs.declared.memories.entry.MemoryEntry.{MemoryEntry};
-ghost use Rattle.nx_memory.specs.Content.{passing};
+ghost use Rattle.nx_memory.specs.Content.{is_last_known, passing};
 ghost use Rattle.nx_watch.specs.Start.{is_in_order, is_near, remembered_at};
 
 use arrayvec::ArrayVec;
@@ -29,7 +29,7 @@ pub fn remembered(moment: u64, entries: &[MemoryEntry]) -> Saved
 {
     let near = near_entries(moment, entries);
     let in_order = entries_passing(near.as_slice(), stands_in_order);
-    let last_known = entries_passing(in_order.as_slice(), is_last_known);
+    let last_known = entries_passing(in_order.as_slice(), is_last);
     saved_of(last_known.as_slice())
 }
 
@@ -77,6 +77,14 @@ fn stands_in_order(entry: &MemoryEntry, behind: &[MemoryEntry]) -> bool
     ensures { result ≡ is_in_order entry.now behind.now }
 {
     behind.iter().all(|other| entry.moment <= other.moment)
+}
+
+/// Whether none of its identity stands less than 66 hours later behind an entry.
+// A function of another crate isn't taken for a closure.
+fn is_last(entry: &MemoryEntry, behind: &[MemoryEntry]) -> bool
+    ensures { result ≡ is_last_known entry.now behind.now }
+{
+    is_last_known(entry, behind)
 }
 
 /// What is saved where these are the entries of a memory, and everything is selected.
