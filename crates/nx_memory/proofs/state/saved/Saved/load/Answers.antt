@@ -26,22 +26,3 @@ enter-requires-clause-unknown g c =
           c.loop-entry-test.true;
       here = c.entry-item.is;
     })
-
-pub loop-entry-preserved : goal.loop-entry-preserved
-loop-entry-preserved g c =
-    let content = subst IsContent (sym c.as_slice-entry-items.ensures.value)
-    c.self.invariant.content in
-    c.enter.ensures ∙ held-more _ _ _ _
-    (record {
-      content = content;
-      before = c.loop-entry.invariant;
-      within =
-          c.loop-entry-test.true;
-      here = c.entry-item.is;
-    })
-
-pub returns : goal.returns
-returns g c =
-    c.loop-entry.invariant
-    ∙ take_all c.loop-entry.entry-index c.as_slice-entry-items.result.now (omega arith)
-    ∙ rw (c.as_slice-entry-items.ensures.value, ← c.self.view_is)

@@ -13,9 +13,3 @@ loop-place-preserved g c =
     made
     ∙ ap (λ (them : List MemoryEntry). them ++ one_of c.entry.result) c.loop-place.invariant
     ∙ rw c.entry.ensures (taken-more (g.M.Recall.content c.args.memory.now) c.loop-place.place)
-
-pub invariant_of-result : goal.invariant_of-result
-invariant_of-result g c = grind (arith, common_steps)
-
-pub returns-clause-entries : goal.returns-clause-entries
-returns-clause-entries g c = grind (arith, common_steps)

@@ -6,18 +6,6 @@ use Rattle.nx_memory.specs.Saved.{AreSavedEntries}
 use Rattle.nx_memory.proofs.lemmas.Renewed.{last_known-content, newest-last_known}
 use Rattle.nx_memory.proofs.state.saved.Saved.of_renewing.Goals as goal
 
-pub push-requires : goal.push-requires
-push-requires c = (
-  omega arith,
-  omega (
-    arith,
-    c.loop-place.invariant.few,
-    c.loop-place-test.true,
-    c.entries-all.ensures.content.bounded,
-    ap length c.entries-all.ensures.entries,
-  ),
-)
-
 pub invariant_of-result : goal.invariant_of-result
 invariant_of-result c =
     let all = c.entries-all.result.now in
