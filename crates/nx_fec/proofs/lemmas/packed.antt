@@ -2,4 +2,3 @@
 pub mod Digits
 pub mod Packed
 pub mod PackedFronts
-pub mod PackedPlaces

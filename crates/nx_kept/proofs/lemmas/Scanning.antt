@@ -74,18 +74,6 @@ module _ (is_record : List ℕ → Type 0) {T : Type 0} (takes : T → List ℕ 
     pub at_line : line ≡ line_behind front
     pub taken : Took takes old records now
 
-  pub reached_none : (file : List ℕ) (old : T) → Reached file 0 1 old old
-  reached_none file old = record {
-    records = [];
-    front = [];
-    rest = file;
-    kept = refl;
-    split = refl;
-    place = refl;
-    at_line = refl;
-    taken = refl;
-  }
-
   -- what is left of the file
   pub left_is : (file : List ℕ) (gate line : ℕ) (old now : T)
       (reached : Reached file gate line old now) → drop gate file ≡ reached.rest

@@ -8,6 +8,11 @@ use Rattle.nx_kept.specs.private.Scan.{IsAtRecord}
 use Rattle.nx_kept.proofs.lemmas.Pieces.{beginning, take_past, take_short}
 use Rattle.nx_kept.proofs.lemmas.KeptLaws.{closed_tail, tail_short, only_tail, one_before}
 
+-- of two parts of nothing the second is nothing
+pub nil_right : (a b : List ℕ) → a ++ b ≡ [] → b ≡ []
+nil_right [] b same = same
+nil_right (x ∷ a) b same = absurd (cc)
+
 module _ (is_record : List ℕ → Type 0) (longest : ℕ) (some : (bytes : List ℕ) → is_record bytes
     → 0 < length bytes) (bounded : (bytes : List ℕ) → is_record bytes → length bytes ≤ longest)
     (one : (bytes more : List ℕ) → is_record bytes → is_record (bytes ++ more) → more ≡ []) where
@@ -142,13 +147,6 @@ module _ (is_record : List ℕ → Type 0) (longest : ℕ) (some : (bytes : List
       ∙ ap (λ (l : List ℕ). kept.0 ∷ l) (append_assoc first kept.1 stands.tail) in
       let tails : bytes ≡ first ++ (kept.1 ++ stands.tail) = cc in
       (first, kept.1 ++ stands.tail, kept.3, tails)
-
-  nothing_first : (x : ℕ) (xs : List ℕ) → x ∷ xs ≡ [] → ⊥
-  nothing_first x xs same = cc
-
-  nil_right : (a b : List ℕ) → a ++ b ≡ [] → b ≡ []
-  nil_right [] b same = same
-  nil_right (x ∷ a) b same = absurd (nothing_first x (a ++ b) same)
 
   -- a record doesn't begin a record that lacks bytes
   not_within : (first rest bytes : List ℕ) → is_record first → bytes ≡ first ++ rest

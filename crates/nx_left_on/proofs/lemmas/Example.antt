@@ -71,6 +71,7 @@ use Rattle.nx_left_on.proofs.lemmas.chains.Keeps.{keeps-all, keeps-behind, one-t
 use Rattle.nx_left_on.proofs.lemmas.chains.Links.{copies-append, put-append}
 use Rattle.nx_left_on.proofs.lemmas.chains.Once.{unknown-from_nothing}
 use Rattle.nx_left_on.proofs.lemmas.entries.Judging.{puts-with}
+use Rattle.nx_promises.proofs.lemmas.examples.Chain.{first-long, place-is, copy-is, sent-there}
 
 -- ---- the lines of a watch: this moment, and the elements
 
@@ -118,25 +119,6 @@ lines-act : (start : StartMoments) (n : ℕ) → start.newest ≤ n → n ≤ la
 lines-act start n low high = bits-act bits start n low high
 
 -- ---- the copy in them
-
-first-long : length first_bits ≡ 672
-first-long =
-    let words : length (take 96 damaged_words) ≡ 96 =
-    length-take 96 damaged_words ∙ omega (arith, damaged_computed.long) in
-    omega (arith, words, length-bits_of (take 96 damaged_words))
-
-place-is : length first_bits + 517 ≡ 1189
-place-is = omega (arith, first-long)
-
-copy-is : found ≡ copy_heard ∷ []
-copy-is =
-    alone found (copy_of_sending (example_sending first_bits)) one_found sent_there
-    ∙ ap (λ (p : ℕ). copy_of_sending (record { message = example_message; place = p }) ∷ [])
-    place-is
-
-sent-there : IsSentAt (example_parts first_bits []) example_message 1189
-sent-there = subst (IsSentAt (example_parts first_bits []) example_message) place-is
-    (example_sent first_bits [])
 
 stands-in : (n : ℕ) → IsNow (elements_among (events_on Zero (lines_at n))) [] (locked 0 28)
 stands-in n = subst (λ (b : List Bool). IsNow b [] (locked 0 28)) (same n) stands_is

@@ -32,20 +32,7 @@ use Rattle.nx_locks.specs.Found.{IsCopyAmong, StandsIn, now_texts, past_texts, s
 use Rattle.nx_locks.specs.LockText.{shown_text}
 use Rattle.nx_locks.specs.Report.{AreShown, IsEndShown, IsReport, IsShown}
 use Rattle.nx_locks.specs.Run.{IsReportOfFile, elements_on_0}
-
--- what holds of each copy holds of those that are printed
-one_printed : (P : TaggedCopy → Type 0) (copy : TaggedCopy) → P copy → (b : Bool)
-    → All P (if b then copy ∷ [] else [])
-one_printed P copy p true = All-cons P copy [] p (All-nil P)
-one_printed P copy p false = All-nil P
-
-all_printed : (P : TaggedCopy → Type 0) (entries : List MemoryEntry) (copies : List TaggedCopy)
-    → All P copies → All P (printed_copies entries copies)
-unfolding printed_copies if_printed
-all_printed P entries [] all = All-nil P
-all_printed P entries (copy ∷ copies) all =
-    All-append P _ _ (one_printed P copy (all 0 copy (omega arith)) (is_printed entries copy))
-    (all_printed P (entries ++ entry_made entries copy) copies (All-tail P copy copies all))
+use Rattle.nx_copies.proofs.lemmas.once.Repeats.{all_printed}
 
 -- a copy that is found is a copy of one of these texts, whatever is in force
 abbrev IsFoundAmong : List (List ℕ) → FoundCopy → Type 0

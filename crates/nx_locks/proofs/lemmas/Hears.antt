@@ -37,9 +37,6 @@ module _ (old new : Taking) (bits : List Bool) (b : Bool) (moments given : List 
     abbrev moments' : List ℕ
     moments' = moments ++ old.moment ∷ []
 
-    longer : length bits' ≡ length bits + 1
-    longer = length_push bits b
-
     -- nothing came
     nothing_came : r ≡ step None None
         → Shows old.reader old.locks old.copies bits' moments' (given ++ [])

@@ -18,11 +18,6 @@ use Rattle.nx_code.proofs.lemmas.WordCounts.{wrong_in-same}
 use Rattle.nx_locks.specs.private.Reader.{HasHeardWords, Reading, ShowsWords}
 use Rattle.nx_locks.proofs.lemmas.ReaderWords.{line_pushed}
 
--- whether a word of a list is wrong, by its place
-pub wrong_at : (words : List ℕ) (k x : ℕ) → k < length words
-    → one_if (is_wrong (get_or words k x)) ≡ one_if (is_wrong (slice_index words k))
-wrong_at words k x h = ap (λ w. one_if (is_wrong w)) (get_or_default_zero words k x h)
-
 -- how many of the first words are wrong, with one more
 pub wrong_in-next : (words : ℕ → ℕ) (n : ℕ)
     → wrong_in words 0 (n + 1) ≡ wrong_in words 0 n + one_if (is_wrong (words n))

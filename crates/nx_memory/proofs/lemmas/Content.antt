@@ -13,14 +13,12 @@ use Rattle.nx_memory.specs.declared.memories.entry.MemoryEntry.{MemoryEntry}
 use Rattle.nx_memory.specs.Content.{IsLater, AreInTurn, IsContent}
 use Rattle.nx_memory.specs.Memory.{most_entries, seconds_known, newest_moment, content_after}
 use Rattle.nx_memory.specs.Memory.{is_recent, is_known}
+use Rattle.std.proofs.lemmas.List.Elements.{All-tail}
 
 -- what holds of each of a list and of one more
 pub All-one : {X : Type 0} (P : X → Type 0) (x : X) → P x → All P (x ∷ [])
 All-one P x h zero d below = h
 All-one P x h (suc k) d below = absurd (omega arith)
-
-pub All-tail : {X : Type 0} (P : X → Type 0) (x : X) (xs : List X) → All P (x ∷ xs) → All P xs
-All-tail P x xs all k d below = all (suc k) d (omega arith)
 
 -- the entries that are left when the oldest are forgotten stand in turn
 in_turn-drop : (n : ℕ) (entries : List MemoryEntry) → AreInTurn entries → AreInTurn (drop n entries)

@@ -5,7 +5,7 @@ use Rattle.std.proofs.Common.{refl, sym, ap, ◌∙◌, subst, arith}
 use Rattle.std.specs.List.{All}
 use Rattle.std.proofs.lemmas.Bool.{le-ltb}
 use Rattle.std.proofs.lemmas.List.{take_more, length-take}
-use Rattle.std.proofs.lemmas.List.Elements.{All-nil, All-cons, All-head, All-get_or}
+use Rattle.std.proofs.lemmas.List.Elements.{All-nil, All-cons, All-head, All-get_or, All-tail}
 use Rattle.nx_code.specs.Lists.{last_of}
 use Rattle.nx_envelope.specs.declared.identity.Identity.{Identity}
 use Rattle.nx_envelope.specs.Identity.{same_identity}
@@ -13,7 +13,7 @@ use Rattle.nx_memory.specs.declared.memories.entry.MemoryEntry.{MemoryEntry}
 use Rattle.nx_memory.specs.Content.{IsLater, AreInTurn, IsContent}
 use Rattle.nx_memory.specs.Memory.{most_entries, seconds_known, newest_moment, content_after}
 use Rattle.nx_memory.specs.Memory.{is_recent, is_known, entry_at}
-use Rattle.nx_memory.proofs.lemmas.Content.{All-tail, newest_behind}
+use Rattle.nx_memory.proofs.lemmas.Content.{newest_behind}
 
 -- each entry is later than all that stand before it
 later_than_before : (entries : List MemoryEntry) (k : ℕ) (d : MemoryEntry) → AreInTurn entries

@@ -1,5 +1,5 @@
 -- The entries of a memory that enters what it knows, and those of them that are known last.
-use Rattle.std.proofs.Common.{◌≡◌, ℕ, ◌+◌, ◌-◌, ◌<◌, ◌≤◌, zero, suc, true, false, ◌&&◌, ◌||◌}
+use Rattle.std.proofs.Common.{◌≡◌, ℕ, ◌+◌, ◌-◌, ◌<◌, ◌≤◌, zero, suc, Bool, true, false, ◌&&◌, ◌||◌}
 use Rattle.std.proofs.Common.{cond, not, List, [], ◌∷◌, ◌++◌, length, drop, get_or, nat_lt, inl, inr}
 use Rattle.std.proofs.Common.{refl, sym, ap, ◌∙◌, subst, append_assoc, arith}
 use Rattle.std.specs.List.{All, list_any}
@@ -12,10 +12,11 @@ use Rattle.nx_envelope.specs.Identity.{same_identity}
 use Rattle.nx_envelope.proofs.lemmas.headers.Identities.{same_identity-true}
 use Rattle.nx_memory.specs.declared.memories.entry.MemoryEntry.{MemoryEntry}
 use Rattle.nx_memory.specs.Content.{AreInTurn, IsContent, IsLater, IsRenewedContent, NeverFall}
-use Rattle.nx_memory.specs.Content.{is_last_known, last_known, renews}
+use Rattle.nx_memory.specs.Content.{is_last_known, last_known, passing, renews}
 use Rattle.nx_memory.specs.Memory.{content_after, is_known, is_recent, most_entries}
 use Rattle.nx_memory.specs.Memory.{newest_moment, seconds_known}
-use Rattle.nx_memory.proofs.lemmas.Content.{All-one, All-tail, newest_behind}
+use Rattle.nx_memory.proofs.lemmas.Content.{All-one, newest_behind}
+use Rattle.std.proofs.lemmas.List.Elements.{All-tail}
 
 -- What stays of them where one more is entered.
 
@@ -69,47 +70,26 @@ renewed-after content identity moment is newest numbered =
           (none_past content moment is.in_order newest));
     }
 
-pub renewed-none : IsRenewedContent []
-renewed-none = record {
-  bounded = omega arith;
-  numbered = All-nil (λ (it : MemoryEntry). 0 < it.identity.number);
-  in_order = tt;
-}
-
 -- Those that are known last.
 
--- one more entry, which is one of them or isn't
-pub last_known-step : (entries kept next all : List MemoryEntry) (place : ℕ) (entry : MemoryEntry)
-    → place < length entries → entry ≡ get_or entries place entry
-    → next ≡ kept ++ cond (is_last_known entry (drop (place + 1) entries)) (entry ∷ []) []
-    → kept ++ last_known (drop place entries) ≡ all
-    → next ++ last_known (drop (place + 1) entries) ≡ all
-last_known-step entries kept next all place entry within is more whole =
-    let rest = drop (place + 1) entries in
-    let front : drop place entries ≡ entry ∷ rest =
-    drop_more entries place entry within ∙ ap (λ e. e ∷ rest) (sym is) in
-    ap (λ l. l ++ last_known rest) more
-    ∙ append_assoc kept (cond (is_last_known entry rest) (entry ∷ []) []) (last_known rest)
-    ∙ ap (λ l. kept ++ last_known l) (sym front)
-    ∙ whole
-
--- what holds of each holds of them
-All-last_known : (P : MemoryEntry → Type 0) (entries : List MemoryEntry) → All P entries
-    → All P (last_known entries)
-All-last_known P [] all = All-nil P
-All-last_known P (entry ∷ behind) all =
-    All-append P (cond (is_last_known entry behind) (entry ∷ []) []) (last_known behind)
-    (elim (is_last_known entry behind) as (λ b. All P (cond b (entry ∷ []) [])) [
+-- what holds of each holds of those that pass
+pub All-passing : (P : MemoryEntry → Type 0) (test : MemoryEntry → List MemoryEntry → Bool)
+    (entries : List MemoryEntry) → All P entries → All P (passing test entries)
+All-passing P test [] all = All-nil P
+All-passing P test (entry ∷ behind) all =
+    All-append P (cond (test entry behind) (entry ∷ []) []) (passing test behind)
+    (elim (test entry behind) as (λ b. All P (cond b (entry ∷ []) [])) [
       | true ↦ All-cons P entry [] (All-head P entry behind all) (All-nil P)
       | false ↦ All-nil P
     ])
-    (All-last_known P behind (All-tail P entry behind all))
+    (All-passing P test behind (All-tail P entry behind all))
 
-pub length-last_known : (entries : List MemoryEntry) → length (last_known entries) ≤ length entries
-length-last_known [] = omega arith
-length-last_known (entry ∷ behind) =
-    let few = length-last_known behind in
-    elim (is_last_known entry behind) as (λ b. length (cond b (entry ∷ []) [] ++ last_known behind)
+pub length-passing : (test : MemoryEntry → List MemoryEntry → Bool) (entries : List MemoryEntry)
+    → length (passing test entries) ≤ length entries
+length-passing test [] = omega arith
+length-passing test (entry ∷ behind) =
+    let few = length-passing test behind in
+    elim (test entry behind) as (λ b. length (cond b (entry ∷ []) [] ++ passing test behind)
     ≤ suc (length behind)) [
       | true ↦ omega arith
       | false ↦ omega arith
@@ -138,14 +118,14 @@ all_later entry (next ∷ behind) order none =
     (all_later entry behind
     (All-tail (λ (other : MemoryEntry). entry.moment ≤ other.moment) next behind order) parts.1)
 
-in_turn-last_known : (entries : List MemoryEntry) → NeverFall entries
+pub in_turn-last_known : (entries : List MemoryEntry) → NeverFall entries
     → AreInTurn (last_known entries)
 in_turn-last_known [] order = tt
 in_turn-last_known (entry ∷ behind) order =
     elim (is_last_known entry behind) as (λ b. is_last_known entry behind ≡ b
     → AreInTurn (cond b (entry ∷ []) [] ++ last_known behind)) [
       | true ↦ λ is. (
-        All-last_known (IsLater entry) behind
+        All-passing (IsLater entry) is_last_known behind
             (all_later entry behind order.0
             (not-true (list_any (λ other. renews entry other) behind) is)),
         in_turn-last_known behind order.1,
@@ -157,8 +137,9 @@ in_turn-last_known (entry ∷ behind) order =
 pub last_known-content : (entries : List MemoryEntry) → IsRenewedContent entries
     → IsContent (last_known entries)
 last_known-content entries is = record {
-  bounded = omega (arith, is.bounded, length-last_known entries);
-  numbered = All-last_known (λ (it : MemoryEntry). 0 < it.identity.number) entries is.numbered;
+  bounded = omega (arith, is.bounded, length-passing is_last_known entries);
+  numbered = All-passing (λ (it : MemoryEntry). 0 < it.identity.number) is_last_known entries
+      is.numbered;
   in_turn = in_turn-last_known entries is.in_order;
 }
 

@@ -6,15 +6,14 @@ use Rattle.std.specs.List.{AllByRecursion}
 use Rattle.std.specs.Fmt.{decimal}
 use Rattle.std.specs.FinSet as set
 use Rattle.std.proofs.lemmas.Bool.{and_parts, and_from, eq-eqb, ltb-true, lt-ltb, leb-true, le-leb}
-use Rattle.std.proofs.lemmas.Bool.{true≢false}
+use Rattle.std.proofs.lemmas.Bool.{true≢false, not-true}
 use Rattle.std.proofs.lemmas.Bool.Decides.{Decides-eqb}
 use Rattle.std.proofs.lemmas.Fmt.{decimal_injective}
 use Rattle.std.proofs.lemmas.List.{append-nil, length-append, map_push, nil_from_length}
 use Rattle.std.proofs.lemmas.List.Elements.{All-from_recursion, recursion_from_All}
 use Rattle.nx_envelope.specs.declared.identity.Identity.{Identity}
-use Rattle.nx_envelope.specs.Identity.{same_identity}
 use Rattle.nx_envelope.specs.Moment.{last_moment}
-use Rattle.nx_envelope.proofs.lemmas.headers.Identities.{same_identity-true}
+use Rattle.nx_envelope.proofs.lemmas.headers.Identities.{same_from_bytes}
 use Rattle.nx_memory.specs.declared.memories.entry.MemoryEntry.{MemoryEntry}
 use Rattle.nx_memory.specs.declared.state.saved_line.SavedLine.{SavedLine}
 use Rattle.nx_memory.specs.declared.state.saved_line.SavedLine.TheVariants.{Station, Subject, Entry}
@@ -67,11 +66,7 @@ same_entry a b small_a small_b e =
     let units : 48 + a.identity.number % 10 ≡ 48 + b.identity.number % 10 =
     ap (λ l. get_or l 3 0) e in
     let number : a.identity.number ≡ b.identity.number = omega arith in
-    let same : same_identity a.identity b.identity ≡ true =
-    and_from _ _ (and_from _ _ (eq-eqb a.identity.b1.byte b.identity.b1.byte station)
-    (eq-eqb a.identity.b2.byte b.identity.b2.byte subject))
-    (eq-eqb a.identity.number b.identity.number number) in
-    let identity : a.identity ≡ b.identity = same_identity-true a.identity b.identity same in
+    let identity = same_from_bytes a.identity b.identity station subject number in
     let digits : decimal a.moment ≡ decimal b.moment = ap (drop 5) e in
     let moment : a.moment ≡ b.moment =
     decimal_injective a.moment b.moment (omega arith) (omega arith) digits in
@@ -408,10 +403,6 @@ upper_high x h = leb-true x 90 (and_parts (leb 65 x) (leb x 90) h).1
 nothing : {X : Type 0} (xs : List X) → eqb (length xs) 0 ≡ true → xs ≡ []
 nothing xs h = nil_from_length xs ((Decides-eqb (length xs) 0).0 h)
 
-not_false : (b : Bool) → not b ≡ true → b ≡ false
-not_false true h = sym h
-not_false false h = refl
-
 newest_pushed : (entries : List MemoryEntry) (e : MemoryEntry)
     → newest_moment (entries ++ e ∷ []) ≡ e.moment
 newest_pushed [] e = refl
@@ -484,7 +475,7 @@ is_taken saved (Subject x) is spelled taken =
           stations = is.refused.stations;
           subjects = letters_only-insert saved.refused.subjects x is.refused.subjects (low, high);
           without_vital = without_vital-insert saved.refused.subjects x is.refused.without_vital
-              (not_false (is_vital x) two.0);
+              (not-true (is_vital x) two.0);
         };
         entries = is.entries;
       };
@@ -498,7 +489,7 @@ is_taken saved (Entry e) is spelled taken =
     let few = ltb-true (length saved.entries) most_entries one.0 in
     let numbered = ltb-true 0 e.identity.number two.0 in
     let newest = leb-true (newest_moment saved.entries) e.moment three.0 in
-    let unknown = not_false (is_known e.identity e.moment saved.entries) three.1 in
+    let unknown = not-true (is_known e.identity e.moment saved.entries) three.1 in
     let content = content_after-IsContent saved.entries e.identity e.moment is.entries.content
     newest unknown numbered in
     let none : length (saved.entries ++ e ∷ []) - most_entries ≡ 0 =
@@ -544,7 +535,7 @@ unfolding takes
 taken_subject saved line x is taken =
     let one = and_parts _ _ (sym (ap (takes saved) is) ∙ taken) in
     let two = and_parts _ _ one.1 in
-    ((upper_low x one.0, upper_high x one.0), not_false (is_vital x) two.0)
+    ((upper_low x one.0, upper_high x one.0), not-true (is_vital x) two.0)
 
 pub taken_entry : (saved : SavedState) (line : SavedLine) (e : MemoryEntry) → line ≡ Entry e
     → takes saved line ≡ true → length saved.entries < most_entries

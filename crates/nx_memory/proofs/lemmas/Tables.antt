@@ -10,7 +10,7 @@ use Rattle.std.proofs.lemmas.Bool.{true≢false, or_right, ltb-false, le-ltb, lt
 use Rattle.std.proofs.lemmas.Bool.{and_from, eq-eqb, ne_eqb}
 use Rattle.std.proofs.lemmas.List.{get_or-set_same, get_or-set_other, get_or-replicate}
 use Rattle.std.proofs.lemmas.List.{length-replicate, length-append}
-use Rattle.std.proofs.lemmas.List.Elements.{All-head}
+use Rattle.std.proofs.lemmas.List.Elements.{All-head, All-tail}
 use Rattle.std.proofs.lemmas.Nat.{same_from_place}
 use Rattle.std.proofs.lemmas.Option.{same_Some}
 use Rattle.nx_code.specs.Lists.{last_of}
@@ -22,7 +22,6 @@ use Rattle.nx_memory.specs.Content.{IsLater, AreInTurn}
 use Rattle.nx_memory.specs.Memory.{most_entries, seconds_known, is_recent, is_known}
 use Rattle.nx_memory.specs.private.RingAndTable.{is_moment, holds_moment, IsTableOf}
 use Rattle.nx_memory.specs.Table.{identities, index_of, moment_of_last, is_recent_moment}
-use Rattle.nx_memory.proofs.lemmas.Content.{All-tail}
 
 -- each place is within the table, and two identities have two places
 pub index_within : (identity : Identity) → index_of identity < identities

@@ -156,7 +156,3 @@ module _ (printing : Printing) (laws : IsPrinting printing) where
       one-adds starts given channel events copies more h k
       ∙ ap (map (marked channel)) alike
       ∙ sym (one-adds starts given channel events copies others h j)
-
--- the same where each copy is judged alone
-pub nothing-given : (starts : Starts) → PrintsInTurn starts [] []
-nothing-given = nothing-given_by plain plain-laws

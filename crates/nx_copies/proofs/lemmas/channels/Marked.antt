@@ -3,7 +3,7 @@ use Rattle.std.proofs.Common.{◌≡◌, ◌⊎◌, inl, inr, Bool, true, false,
 use Rattle.std.proofs.Common.{length, refl, sym, ap, ap₂, ◌∙◌, subst, append-nil, arith}
 use Rattle.std.proofs.Common.{length-append}
 use Rattle.std.specs.List.{All}
-use Rattle.std.proofs.lemmas.List.{append_cancel_left}
+use Rattle.std.proofs.lemmas.List.{append_cancel_left, nil_from_length}
 use Rattle.std.proofs.lemmas.List.Elements.{All-nil, All-cons, All-head, All-tail, All-same}
 use Rattle.nx_fec.specs.air_files.Channels.{same_channel}
 use Rattle.nx_fec.specs.declared.air_files.channel.Channel.{Channel}
@@ -92,14 +92,10 @@ one-begins (x ∷ front) more (y ∷ other) rest e =
       | inr on ↦ inr (record { rest = on.rest; whole = ap₂ (λ a as'. a ∷ as') head on.whole })
     ]
 
-pub no-length : {A : Type 0} (xs : List A) → length xs ≡ 0 → xs ≡ []
-no-length [] e = refl
-no-length (x ∷ xs) e = absurd (omega (arith, e))
-
 both-ways : {A : Type 0} (one other more rest : List A) → one ≡ other ++ more
     → other ≡ one ++ rest → more ≡ []
 both-ways one other more rest e f =
-    no-length more (omega (
+    nil_from_length more (omega (
       arith,
       ap length e,
       ap length f,

@@ -120,11 +120,6 @@ module _ (printing : Printing) (laws : IsPrinting printing) where
   some-to_end_by starts given =
       let ended = some-in_turn_by starts given in some-ended starts given ended.0 ended.1
 
--- the same where each copy is judged alone
-pub later-some : (starts : Starts) (before later : List Given) (copies : List MarkedCopy)
-    → PrintsInTurn starts before copies → GoesOnPrinted plain starts (before ++ later) copies
-later-some = later-some_by plain plain-laws
-
 pub some-in_turn : (starts : Starts) (given : List Given)
     → (copies : List MarkedCopy) × PrintsInTurn starts given copies
 some-in_turn = some-in_turn_by plain plain-laws

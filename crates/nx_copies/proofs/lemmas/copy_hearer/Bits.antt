@@ -92,9 +92,6 @@ module _ (first : Setting) (bits : List Bool) (b : Bool) (settings : List Settin
   abbrev settings' : List Setting
   settings' = settings ++ s ∷ []
 
-  one_longer : length bits' ≡ length bits + 1
-  one_longer = length_push bits b
-
   as_many : length settings' ≡ length bits'
   as_many = omega (arith, length_push bits b, length_push settings s, many)
 

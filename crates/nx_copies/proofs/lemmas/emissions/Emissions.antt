@@ -39,6 +39,42 @@ pub word_of-heard_in : (heard : List ℕ) (i : ℕ) → word_of heard i ≡ hear
 word_of-heard_in heard i = let e : 96 + i - 96 ≡ i = omega arith in
     ap (λ n. get_or heard n 0) (sym e)
 
+-- the positions that are sent: those of the phasing, those on the air, and those of the end
+pub long_sent : (numbers : List ℕ) (spellings : List (List ℕ))
+    → length (layout (numbers ∷ spellings)) ≡ 75 + length (on_air 36 (numbers ∷ spellings))
+long_sent numbers spellings =
+    let air = on_air 36 (numbers ∷ spellings) in
+    ap length (layout-parts numbers spellings)
+    ∙ length-append (replicate 72 phasing_position) (air ++ replicate 3 end_position)
+    ∙ omega (
+      arith,
+      length-replicate 72 phasing_position,
+      length-append air (replicate 3 end_position),
+      length-replicate 3 end_position,
+    )
+
+pub phasing_at : (numbers : List ℕ) (spellings : List (List ℕ)) (i : ℕ) → i < 72
+    → position_at (layout (numbers ∷ spellings)) i ≡ phasing_position
+phasing_at numbers spellings i lt =
+    let air = on_air 36 (numbers ∷ spellings) in
+    ap (λ l. get_or l i end_position) (layout-parts numbers spellings)
+    ∙ get_or_append_left (replicate 72 phasing_position) (air ++ replicate 3 end_position)
+    end_position i (omega (arith, length-replicate 72 phasing_position))
+    ∙ get_or-replicate 72 i phasing_position end_position lt
+
+pub air_at : (numbers : List ℕ) (spellings : List (List ℕ)) (i : ℕ)
+    → i < length (on_air 36 (numbers ∷ spellings))
+    → position_at (layout (numbers ∷ spellings)) (72 + i)
+    ≡ position_at (on_air 36 (numbers ∷ spellings)) i
+air_at numbers spellings i lt =
+    let air = on_air 36 (numbers ∷ spellings) in
+    let e : 72 + i - 72 ≡ i = omega arith in
+    ap (λ l. get_or l (72 + i) end_position) (layout-parts numbers spellings)
+    ∙ get_or-append_right (replicate 72 phasing_position) (air ++ replicate 3 end_position) 72
+    (72 + i) end_position (length-replicate 72 phasing_position) (omega arith)
+    ∙ ap (λ n. get_or (air ++ replicate 3 end_position) n end_position) e
+    ∙ get_or_append_left air (replicate 3 end_position) end_position i lt
+
 module _ (numbers : List ℕ) (spellings : List (List ℕ)) (heard : List ℕ)
     (has : HasInner (layout (numbers ∷ spellings)))
     (passes : PassesPath (layout (numbers ∷ spellings)) heard) where
@@ -48,50 +84,24 @@ module _ (numbers : List ℕ) (spellings : List (List ℕ)) (heard : List ℕ)
   abbrev air : List SentPosition
   air = on_air 36 (numbers ∷ spellings)
 
-  long_sent : length sent ≡ 75 + length air
-  long_sent =
-      ap length (layout-parts numbers spellings)
-      ∙ length-append (replicate 72 phasing_position) (air ++ replicate 3 end_position)
-      ∙ omega (
-        arith,
-        length-replicate 72 phasing_position,
-        length-append air
-            (replicate 3 end_position),
-        length-replicate 3 end_position,
-      )
-
   pub long_heard : length heard ≡ 53 + 2 * length air
-  long_heard = omega (arith, long_sent, passes.whole)
-
-  pub phasing_at : (i : ℕ) → i < 72 → position_at sent i ≡ phasing_position
-  phasing_at i lt =
-      ap (λ l. get_or l i end_position) (layout-parts numbers spellings)
-      ∙ get_or_append_left (replicate 72 phasing_position) (air ++ replicate 3 end_position)
-      end_position i (omega (arith, length-replicate 72 phasing_position))
-      ∙ get_or-replicate 72 i phasing_position end_position lt
-
-  air_at : (i : ℕ) → i < length air → position_at sent (72 + i) ≡ position_at air i
-  air_at i lt =
-      let e : 72 + i - 72 ≡ i = omega arith in
-      ap (λ l. get_or l (72 + i) end_position) (layout-parts numbers spellings)
-      ∙ get_or-append_right (replicate 72 phasing_position) (air ++ replicate 3 end_position) 72
-      (72 + i) end_position (length-replicate 72 phasing_position) (omega arith)
-      ∙ ap (λ n. get_or (air ++ replicate 3 end_position) n end_position) e
-      ∙ get_or_append_left air (replicate 3 end_position) end_position i lt
+  long_heard = omega (arith, long_sent numbers spellings, passes.whole)
 
   second_at : (j : ℕ) → j < 24 → word_of heard (2 * j) ≡ phasing_2
   second_at j lt =
       let slot : 96 + 2 * j ≡ 2 * (48 + j) = omega arith in
       word_of-heard_in heard (2 * j) ∙ ap (heard_in heard) slot
       ∙ passes.phasing (2 * (48 + j)) (omega arith) (omega arith)
-      ∙ word_sent-dx sent (48 + j) ∙ ap dx_word (phasing_at (48 + j) (omega arith))
+      ∙ word_sent-dx sent (48 + j)
+      ∙ ap dx_word (phasing_at numbers spellings (48 + j) (omega arith))
 
   first_at : (j : ℕ) → j < 24 → word_of heard (2 * j + 1) ≡ phasing_1
   first_at j lt =
       let slot : 96 + (2 * j + 1) ≡ 2 * (46 + j) + 5 = omega arith in
       word_of-heard_in heard (2 * j + 1) ∙ ap (heard_in heard) slot
       ∙ passes.phasing (2 * (46 + j) + 5) (omega arith) (omega arith)
-      ∙ word_sent-rx sent (46 + j) ∙ ap rx_word (phasing_at (46 + j) (omega arith))
+      ∙ word_sent-rx sent (46 + j)
+      ∙ ap rx_word (phasing_at numbers spellings (46 + j) (omega arith))
 
   few_at : (a n : ℕ) → n ≤ 64 → a + n ≤ length heard → wrong_in (word_of heard) a n < losing_count
   few_at a n some to =
@@ -108,7 +118,7 @@ module _ (numbers : List ℕ) (spellings : List (List ℕ)) (heard : List ℕ)
   apart_at a lt one two =
       let slot : 96 + 2 * a ≡ 2 * (48 + a) = omega arith in
       no-phasing_1 sent heard has passes (48 + a) (omega arith)
-      (omega (arith, long_heard, long_sent))
+      (omega (arith, long_heard, long_sent numbers spellings))
       (ap (heard_in heard) (sym slot) ∙ sym (word_of-heard_in heard (2 * a)) ∙ one)
 
   pub keeps : KeepsLock heard
@@ -135,8 +145,9 @@ module _ (numbers : List ℕ) (spellings : List (List ℕ)) (heard : List ℕ)
       let second = same (w + 2 * i + 5) (53 + 2 * i) (omega arith) (omega (arith, long_heard))
       ∙ word_of-heard_in heard (53 + 2 * i) ∙ ap (heard_in heard) rx in
       ap₂ (λ a b. pairing (counts_as a) (counts_as b)) first second
-      ∙ taken-as_sent sent heard has passes (72 + i) (omega arith) (omega (arith, long_sent))
-      ∙ ap reception (air_at i lt)
+      ∙ taken-as_sent sent heard has passes (72 + i) (omega arith)
+      (omega (arith, long_sent numbers spellings))
+      ∙ ap reception (air_at numbers spellings i lt)
 
 -- the copy that a message of the emission gives, where so many bits stand before the emission
 abbrev pub emission_copy : ℕ → List (List ℕ) → ℕ → MessageView → FoundCopy
@@ -237,16 +248,6 @@ module _ (gap : List Bool) (messages : List MessageView) (numbers : List ℕ)
         subst (λ (cs : List FoundCopy). Contains cs
         (emission_copy (length gap) (numbers ∷ spellings) index message)) (sym g.whole)
         (Contains-append_left (ended_so_far all_bits l.locks (locked l.p l.t)) g.rest _ copy_ended)
-
--- A received emission keeps the lock that its phasing leaves.
-pub emission_locks : (gap : List Bool) (messages : List MessageView) (spellings : List (List ℕ))
-    (heard : List ℕ)
-    → IsReceived (record { messages = messages; spellings = spellings; heard = heard })
-    → LockedThrough gap heard
-emission_locks gap messages [] heard is =
-    absurd (not-empty [] heard is.passes refl)
-emission_locks gap messages (numbers ∷ spellings) heard is =
-    lock_on gap messages numbers spellings heard is
 
 -- Each of its messages gives a copy, whatever bits came before it and whatever follow.
 pub message_copied : (gap more : List Bool) (messages : List MessageView)

@@ -21,7 +21,7 @@ use Rattle.nx_copies.specs.copies.FoundCopies.{FoundCopy, ended_so_far, open_so_
 use Rattle.nx_copies.specs.laws.Emissions.{HoldsThrough, copies_at, copy_of_sending}
 use Rattle.nx_copies.proofs.lemmas.printing.Logged.{end_adds}
 use Rattle.nx_copies.proofs.lemmas.once.Rising.{Above, Rises, one_of_key}
-use Rattle.nx_copies.proofs.lemmas.emissions.Emissions.{message_copied, emission_locks}
+use Rattle.nx_copies.proofs.lemmas.emissions.Emissions.{message_copied}
 use Rattle.nx_copies.proofs.lemmas.emissions.Places.{found_rise}
 use Rattle.nx_copies.proofs.lemmas.emissions.Texts.{lines_at}
 
@@ -116,7 +116,7 @@ star_is_none = refl
 abbrev star_count : ℕ → ℕ
 star_count b = cond (eqb b 42) 1 0
 
-errors-append : (xs ys : List ℕ) → errors_of (xs ++ ys) ≡ errors_of xs + errors_of ys
+pub errors-append : (xs ys : List ℕ) → errors_of (xs ++ ys) ≡ errors_of xs + errors_of ys
 errors-append xs ys = sum_by-append star_count xs ys
 
 no_star : (b : ℕ) → IsLineByte b → star_count b ≡ 0
@@ -161,35 +161,3 @@ stands_between bits more rest locks p t before after = record {
   holds = λ w how r. after.holds w how
       (IsReleased-more (bits ++ more) rest t w before.found.here.enough r);
 }
-
-pub lock_holds : (earlier : List Bool) (emission : ReceivedEmission) → IsReceived emission
-    → HoldsThrough earlier emission.heard
-lock_holds earlier emission is =
-    let l = emission_locks earlier emission.messages emission.spellings emission.heard is in
-    let heard = bits_of emission.heard in
-    record {
-      begins = l.begins;
-      locks = l.locks;
-      p = l.p;
-      t = l.t;
-      whole = l.whole;
-      limit = l.limit;
-      dx = l.dx;
-      stands = λ n low high.
-          let front : take 336 (take n heard) ≡ phasing 24 = take-take 336 n heard low ∙ l.begins in
-          let parts : take n heard ≡ phasing 24 ++ drop 336 (take n heard) =
-          sym (take-append-drop 336 (take n heard))
-          ∙ ap (λ b. b ++ drop 336 (take n heard)) front in
-          let first : earlier ++ take n heard ≡ (earlier ++ phasing 24) ++ drop 336 (take n heard) =
-          ap (λ b. earlier ++ b) parts
-          ∙ sym (append_assoc earlier (phasing 24) (drop 336 (take n heard))) in
-          let all : earlier ++ heard
-          ≡ ((earlier ++ phasing 24) ++ drop 336 (take n heard)) ++ drop n heard =
-          ap (λ b. earlier ++ b) (sym (take-append-drop n heard))
-          ∙ sym (append_assoc earlier (take n heard) (drop n heard))
-          ∙ ap (λ b. b ++ drop n heard) first in
-          subst (λ (b : List Bool). IsLocked b l.locks l.p l.t) (sym first)
-          (stands_between (earlier ++ phasing 24) (drop 336 (take n heard)) (drop n heard) l.locks
-          l.p l.t l.before (subst (λ (b : List Bool). IsLocked b l.locks l.p l.t) all
-          l.stands));
-    }

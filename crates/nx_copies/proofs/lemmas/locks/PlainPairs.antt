@@ -58,20 +58,6 @@ next_rest {first} {words} {n} xs ys pairs even all = record {
       ∙ get_or-append-add xs ys k 0;
 }
 
--- no words
-pub no_words_plain : (reader : LockReading) → ReadsPlain reader reader []
-no_words_plain reader = record {
-  stands = λ first words n reads all.
-      let e : n ≡ n + 0 = omega arith in subst (ReadsLock reader first words) e reads;
-  brings = λ first words n reads all.
-      let e : n + 0 ≡ n = omega arith in
-      record {
-        bytes = [];
-        grows = ap (text_after first words) e ∙ sym (append-nil (text_after first words n));
-        nothing = λ k lt. absurd (omega (arith, lt));
-      };
-}
-
 -- pairs of words, and others behind them
 pub more_words_plain : {old mid new : LockReading} (xs ys : List ℕ) (pairs : ℕ)
     → length xs ≡ 2 * pairs → ReadsPlain old mid xs → ReadsPlain mid new ys

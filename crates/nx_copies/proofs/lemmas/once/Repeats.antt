@@ -4,7 +4,7 @@ use Rattle.std.proofs.Common.{length, filter, refl, sym, ap, ap₂, ◌∙◌, s
 use Rattle.std.proofs.Common.{append-nil, IsTrue}
 use Rattle.std.specs.List.{All, Contains}
 use Rattle.std.proofs.lemmas.Bool.{false_from_ne_true, true≢false, ne_eqb}
-use Rattle.std.proofs.lemmas.List.Elements.{All-head, All-nil, All-cons, All-append, All-contains}
+use Rattle.std.proofs.lemmas.List.Elements.{All-head, All-tail, All-nil, All-cons, All-append, All-contains}
 use Rattle.std.proofs.lemmas.List.Elements.{filter-append, Contains-append_right}
 use Rattle.nx_envelope.specs.declared.identity.Identity.{Identity}
 use Rattle.nx_envelope.specs.Identity.{same_identity}
@@ -97,7 +97,7 @@ made_lacks identity entries copy h =
     ]
 
 -- one that isn't there, and the rest
-none_first : (identity : Identity) (c : TaggedCopy) (copies : List TaggedCopy)
+pub none_first : (identity : Identity) (c : TaggedCopy) (copies : List TaggedCopy)
     → copies_of identity (c ∷ copies) ≡ []
     → (bears identity c ≡ false) × (copies_of identity copies ≡ [])
 unfolding copies_of
@@ -121,8 +121,23 @@ before_lacks identity entries (c ∷ copies) e k =
     (All-append (λ (entry : MemoryEntry). same_identity entry.identity identity ≡ false) entries
     (entry_made entries c) k (made_lacks identity entries c parts.0)))
 
+-- what is printed of all has what all have
+pub all_printed : (P : TaggedCopy → Type 0) (entries : List MemoryEntry) (copies : List TaggedCopy)
+    → All P copies → All P (printed_copies entries copies)
+unfolding printed_copies if_printed
+all_printed P entries [] all = All-nil P
+all_printed P entries (copy ∷ copies) all =
+    let rest = all_printed P (entries ++ entry_made entries copy) copies
+    (All-tail P copy copies all)
+    in
+    elim (is_printed entries copy) as (λ b. All P
+    (cond b (copy ∷ []) [] ++ printed_copies (entries ++ entry_made entries copy) copies)) [
+      | true ↦ All-cons P copy _ (All-head P copy copies all) rest
+      | false ↦ rest
+    ]
+
 -- copies of other identities print none of it
-before_prints : (identity : Identity) (entries : List MemoryEntry) (copies : List TaggedCopy)
+pub before_prints : (identity : Identity) (entries : List MemoryEntry) (copies : List TaggedCopy)
     → copies_of identity copies ≡ [] → copies_of identity (printed_copies entries copies) ≡ []
 unfolding printed_copies if_printed copies_of
 before_prints identity entries [] e = refl
@@ -162,39 +177,6 @@ none_live identity copies before after first whole none named =
     (subst (λ (i : Identity). IsLive i first.moment (entries_after [] before))
     (same_identity-true first.identity identity named)
     (live_from_known first.identity first.moment (entries_after [] before) known)))
-
--- two parts of a list at its first copy of the identity are one
-pub record SameSplit (before other : List TaggedCopy) (first second : TaggedCopy)
-    (after rest : List TaggedCopy) : Type 0 where
-  pub front : before ≡ other
-  pub here : first ≡ second
-  pub back : after ≡ rest
-
-pub one_split : (identity : Identity) (before other : List TaggedCopy)
-    (first second : TaggedCopy) (after rest : List TaggedCopy)
-    → before ++ first ∷ after ≡ other ++ second ∷ rest
-    → copies_of identity before ≡ [] → copies_of identity other ≡ []
-    → bears identity first ≡ true → bears identity second ≡ true
-    → SameSplit before other first second after rest
-one_split identity [] [] first second after rest e none lacks named again = record {
-  front = refl;
-  here = cc;
-  back = cc;
-}
-one_split identity [] (x ∷ other) first second after rest e none lacks named again =
-    let same : first ≡ x = cc in
-    absurd (true≢false
-    (sym named ∙ ap (bears identity) same ∙ (none_first identity x other lacks).0))
-one_split identity (x ∷ before) [] first second after rest e none lacks named again =
-    let same : x ≡ second = cc in
-    absurd (true≢false (sym again ∙ ap (bears identity) (sym same)
-    ∙ (none_first identity x before none).0))
-one_split identity (x ∷ before) (y ∷ other) first second after rest e none lacks named again =
-    let heads : x ≡ y = cc in
-    let tails : before ++ first ∷ after ≡ other ++ second ∷ rest = cc in
-    let more = one_split identity before other first second after rest tails
-    (none_first identity x before none).1 (none_first identity y other lacks).1 named again in
-    record { front = ap₂ (λ z zs. z ∷ zs) heads more.front; here = more.here; back = more.back }
 
 -- the entry of the first keeps each later copy from being printed
 record IsKept (identity : Identity) (entries : List MemoryEntry) (first : TaggedCopy)

@@ -33,10 +33,6 @@ div-one n = omega arith
 abbrev number : ℕ → ℕ → ℕ → ℕ → ℕ
 number a b c d = a + b * 256 + c * 65536 + d * 16777216
 
-below : (a b c d more : ℕ) → a < 256 → b < 256 → c < 256 → d < 256
-    → (number a b c d + more * 4294967296) % 4294967296 ≡ number a b c d
-below a b c d more a< b< c< d< = omega arith
-
 pub record AreFours (eight a b c d e f g h : ℕ) : Type 0 where
   pub none : eight % 4294967296 ≡ number a b c d
   pub one : eight / 256 % 4294967296 ≡ number b c d e

@@ -32,9 +32,6 @@ pub stage-nil : IsStageOf Nowhere []
 unfolding spaces_back station_back subject_back tens_back
 stage-nil = record { spaces = refl; station = refl; subject = refl; tens = refl }
 
-pub none-nil : open_headers [] ≡ []
-none-nil = open_headers-nil
-
 -- the last four bytes, one byte later
 pub last_four-push : (recent back : List ℕ) (b : ℕ) → recent ≡ last_four back
     → slice_index recent 1 ∷ slice_index recent 2 ∷ slice_index recent 3 ∷ b ∷ []

@@ -88,14 +88,6 @@ pub record WentBy (reached : HeaderStage) (text bytes : List ℕ) (count : ℕ) 
   pub stage : IsStageOf reached (reverse (text ++ take count bytes))
   pub brings : (k : ℕ) → k < count → Keeps (text ++ take k bytes) (slice_index bytes k)
 
-pub none_by : (stage : HeaderStage) (text bytes : List ℕ) → open_headers text ≡ []
-    → IsStageOf stage (reverse text) → WentBy stage text bytes 0
-none_by stage text bytes shut is = record {
-  none = rw (append-nil text) shut;
-  stage = rw (append-nil text) is;
-  brings = λ k lt. absurd (omega arith);
-}
-
 -- the next byte completes no header
 pub one_by : (stage next : HeaderStage) (text bytes : List ℕ) (k b : ℕ) → k < length bytes
     → b ≡ slice_index bytes k → WentBy stage text bytes k
@@ -123,10 +115,6 @@ all_by stage text bytes count fits w = λ k lt.
     (sym (take-take k count bytes (omega (arith, below))))
     (subst (λ x. Keeps (text ++ take k bytes) x) (sym (get_or-take count bytes k 0 below))
     (w.brings k below))
-
-pub and_false : (c d : Bool) → d ≡ false → (c && d) ≡ false
-and_false true d e = e
-and_false false d e = refl
 
 -- nothing stands in the way of four bytes
 pub record Clear (has_end : Bool) (count : ℕ) : Type 0 where

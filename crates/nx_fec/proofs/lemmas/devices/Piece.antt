@@ -12,15 +12,6 @@ piece-parts bytes piece more count =
     ∙ ap (λ l. l ++ more) (sym (append_assoc bytes (take count piece) (drop count piece)))
     ∙ append_assoc (bytes ++ take count piece) (drop count piece) more
 
--- what is left of a piece after an index
-pub piece-rest : (bytes piece more : List ℕ) (at : ℕ)
-    → ((bytes ++ take at piece) ++ take (length piece - at) (drop at piece)) ++ more
-    ≡ (bytes ++ piece) ++ more
-piece-rest bytes piece more at =
-    ap (λ l. ((bytes ++ take at piece) ++ l) ++ more) (take_rest piece at)
-    ∙ append_assoc (bytes ++ take at piece) (drop at piece) more
-    ∙ sym (piece-parts bytes piece more at)
-
 pub piece-whole : (bytes piece : List ℕ) (at : ℕ)
     → (bytes ++ take at piece) ++ take (length piece - at) (drop at piece) ≡ bytes ++ piece
 piece-whole bytes piece at =

@@ -129,16 +129,6 @@ pub taken-all : (piece rest new : List ℕ) (count : ℕ) → rest ≡ piece →
 taken-all piece rest new count is all dropped =
     dropped ∙ drop_all count piece (omega (arith, all, ap length is))
 
--- fewer answers are left behind the next one of a piece
-pub fewer-on : {R : Type 0} (old new : LineReader R) (given : NextLine)
-    → SaysOver false new.is_over given → new.scanner.allowance < old.scanner.allowance
-    → LeavesFewer (answers_left old) (answers_left new) given
-fewer-on old new (next.Line kind) over less =
-    omega (arith, less, ap {B = ℕ} (λ b. if b then 0 else 1) over)
-fewer-on old new next.PieceOver over less =
-    omega (arith, less, ap {B = ℕ} (λ b. if b then 0 else 1) over)
-fewer-on old new next.End over less = absurd (cc)
-
 -- a line that was given next, behind these
 pub record IsNextLine {R : Type 0} (remaining : R → Option (List ℕ)) (limit : ℕ)
     (first : Option (List ℕ)) (reader : LineReader R) (lines : List Line) (kind : LineKind)

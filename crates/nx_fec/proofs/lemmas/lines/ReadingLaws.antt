@@ -55,11 +55,6 @@ IsCause-more limit front lines rest (byte ∷ more) ys (file.LineLong line) at h
 IsCause-more limit front lines rest (byte ∷ more) ys (file.LineCut line) at h = absurd at
 IsCause-more limit front lines rest (byte ∷ more) ys (file.BadLine line) at h = h
 
-pub IfErr-always : {N F : Type 0} (o : Result N F) (P : F → Type 0) → ((fault : F) → P fault)
-    → IfErr o P
-IfErr-always (Ok answer) P h = tt
-IfErr-always (Err fault) P h = h fault
-
 pub IfSome-always : (o : Option (List ℕ)) (P : List ℕ → Type 0) → ((xs : List ℕ) → P xs)
     → IfSome o P
 IfSome-always None P h = tt

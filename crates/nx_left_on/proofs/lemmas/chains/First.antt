@@ -23,12 +23,13 @@ use Rattle.nx_left_on.specs.Chain.{ClocksAreNear, IsChain, Watch, all_copies, al
 use Rattle.nx_left_on.specs.LeftOn.{AreFewOver, IsUnknownOver, JudgedCopy, made_before}
 use Rattle.nx_left_on.proofs.lemmas.chains.Chains.{entries-append, entries_on, kept-append, watch-climbs}
 use Rattle.nx_left_on.proofs.lemmas.entries.Climbing.{Climbs}
-use Rattle.nx_left_on.proofs.lemmas.entries.Keeping.{AllFind, all-climb, all-kept, all-printed, bears}
-use Rattle.nx_left_on.proofs.lemmas.entries.Keeping.{climbs-behind, kept-back, none-printed, one-first}
+use Rattle.nx_left_on.proofs.lemmas.entries.Keeping.{AllFind, all-climb, all-kept}
+use Rattle.nx_left_on.proofs.lemmas.entries.Keeping.{climbs-behind, kept-back, one-first}
 use Rattle.nx_left_on.proofs.lemmas.chains.Later.{HasCome, behind-kept, none-later}
 use Rattle.nx_left_on.proofs.lemmas.chains.Links.{HasFirst, all-back, chain-back, chain-front, clocks-back}
 use Rattle.nx_left_on.proofs.lemmas.chains.Links.{copies_of-append, none-parts, none-put, put-append}
 use Rattle.nx_left_on.proofs.lemmas.entries.Staying.{IsBehind}
+use Rattle.nx_copies.proofs.lemmas.once.Repeats.{all_printed, before_prints, bears}
 
 -- a copy of the identity comes less than 66 hours after this one
 abbrev pub IsRecentTo : Identity → TaggedCopy → TaggedCopy → Type 0
@@ -174,13 +175,13 @@ module _ (log : List MarkedCopy) (watches : List Watch) (channel : Channel) (ide
       ap (copies_of identity) puts
       ∙ copies_of-append identity (printed_copies known f.at.earlier)
       (first ∷ printed_copies made f.at.later)
-      ∙ ap₂ (λ a b. a ++ b) (none-printed identity known f.at.earlier none_before.1)
+      ∙ ap₂ (λ a b. a ++ b) (before_prints identity known f.at.earlier none_before.1)
       (one-first identity first (printed_copies made f.at.later) f.named
       ∙ ap (λ l. first ∷ l) none_here)
 
   late : All (λ (copy : TaggedCopy). first.moment ≤ copy.moment) (printed_copies made f.at.later)
   late =
-      all-printed (λ (copy : TaggedCopy). first.moment ≤ copy.moment) made f.at.later
+      all_printed (λ (copy : TaggedCopy). first.moment ≤ copy.moment) made f.at.later
       (all-climb first.moment f.at.later
       (climbs-behind watch.starts.moment f.at.earlier f.at.later first
       (subst (λ l. Climbs watch.starts.moment l) f.at.judged

@@ -359,11 +359,6 @@ module _ (printing : Printing) (laws : IsPrinting printing) where
 
 -- ---- where each copy is judged alone
 
-pub turn-begins : (starts : Starts) (front more : List Line) (surely copies : List MarkedCopy)
-    → PrintsInTurn starts (given_by front) surely
-    → PrintsInTurn starts (given_by (front ++ more)) copies → Begins surely copies
-turn-begins = turn-begins_by plain plain-laws
-
 pub keeps-all : (now : ℕ) (entries copies : List MarkedCopy) (lines : List (Option Line))
     (file : List ℕ) (stop : Stop)
     → PrintsUntil stop (starts_at now entries) (given_by (acting_at now entries lines)) copies

@@ -22,11 +22,13 @@ use Rattle.nx_left_on.specs.Chain.{copies_in}
 use Rattle.nx_left_on.specs.LeftOn.{AreFewOver, JudgedCopy, made_before}
 use Rattle.nx_left_on.proofs.lemmas.chains.Chains.{entries-append, entries_on, newest-start, start-is}
 use Rattle.nx_left_on.proofs.lemmas.chains.Chains.{near-now, watch-climbs}
-use Rattle.nx_left_on.proofs.lemmas.entries.Keeping.{AllFind, all-climb, all-kept, all-printed, bears}
-use Rattle.nx_left_on.proofs.lemmas.entries.Keeping.{kept-back, none-first}
-use Rattle.nx_left_on.proofs.lemmas.chains.Links.{all-back, all-front, copies_of-append, find-first}
+use Rattle.nx_left_on.proofs.lemmas.entries.Keeping.{AllFind, all-climb, all-kept}
+use Rattle.nx_left_on.proofs.lemmas.entries.Keeping.{kept-back}
+use Rattle.nx_left_on.proofs.lemmas.chains.Links.{all-back, copies_of-append, find-first}
 use Rattle.nx_left_on.proofs.lemmas.chains.Links.{none-put, put-append}
 use Rattle.nx_left_on.proofs.lemmas.entries.Staying.{IsBehind, Stands, stands-newest, stands-remembered}
+use Rattle.nx_copies.proofs.lemmas.once.Repeats.{all_printed, none_first, bears}
+use Rattle.nx_copies.proofs.lemmas.printing.Laws.{all-front}
 
 -- other identities
 other-way : (one other : Identity) → same_identity one other ≡ false
@@ -44,7 +46,7 @@ pub behind-kept : (identity : Identity) (entry : MemoryEntry) (copies : List Tag
 behind-kept identity entry [] named none late =
     All-nil (λ (copy : TaggedCopy). IsBehind entry (entry_of copy))
 behind-kept identity entry (copy ∷ copies) named none late =
-    let parts = none-first identity copy copies none in
+    let parts = none_first identity copy copies none in
     let apart : same_identity entry.identity copy.identity ≡ false =
     ap (λ (x : Identity). same_identity x copy.identity) named
     ∙ other-way copy.identity identity parts.0 in
@@ -174,7 +176,7 @@ module _ (channel : Channel) (identity : Identity) (entry : MemoryEntry)
       let late : All (λ (copy : TaggedCopy). entry.moment ≤ copy.moment)
       (copies_on channel watch.put) =
       subst (All (λ (copy : TaggedCopy). entry.moment ≤ copy.moment)) (sym put)
-      (all-printed (λ (copy : TaggedCopy). entry.moment ≤ copy.moment) known copies
+      (all_printed (λ (copy : TaggedCopy). entry.moment ≤ copy.moment) known copies
       (All-weaker (λ (copy : TaggedCopy). watch.starts.moment ≤ copy.moment)
       (λ (copy : TaggedCopy). entry.moment ≤ copy.moment) (λ copy le. omega (arith, low, le)) copies
       (all-climb watch.starts.moment copies (watch-climbs channel log watch goes)))) in

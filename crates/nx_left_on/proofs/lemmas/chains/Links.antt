@@ -10,19 +10,11 @@ use Rattle.nx_copies.specs.copies.FoundCopies.{TaggedCopy}
 use Rattle.nx_copies.specs.copies.Printing.{copies_of}
 use Rattle.nx_copies.specs.copies.Shares.{MarkedCopy, copies_on}
 use Rattle.nx_copies.proofs.lemmas.channels.Shares.{copies_on-append}
-use Rattle.nx_copies.proofs.lemmas.once.Repeats.{split}
+use Rattle.nx_copies.proofs.lemmas.once.Repeats.{split, before_prints, bears}
 use Rattle.nx_left_on.specs.Chain.{ClocksAreNear, IsChain, Watch, all_copies, all_put, copies_in}
 use Rattle.nx_left_on.specs.LeftOn.{JudgedCopy, judged_before}
-use Rattle.nx_left_on.proofs.lemmas.entries.Keeping.{bears, none-printed}
 
 -- ---- lists
-
-pub all-front : {A : Type 0} (P : A → Type 0) (front back : List A) → All P (front ++ back)
-    → All P front
-all-front P [] back h = All-nil P
-all-front P (x ∷ front) back h =
-    All-cons P x front (All-head P x (front ++ back) h)
-    (all-front P front back (All-tail P x (front ++ back) h))
 
 pub all-back : {A : Type 0} (P : A → Type 0) (front back : List A) → All P (front ++ back)
     → All P back
@@ -85,7 +77,7 @@ none-put channel identity log (watch ∷ watches) chain none =
     ∙ copies_of-append identity (copies_on channel watch.put) (copies_on channel (all_put watches))
     ∙ ap₂ (λ a b. a ++ b)
     (ap (copies_of identity) (chain.0.judges channel).put
-    ∙ none-printed identity (watch.starts.entries channel) copies parts.0)
+    ∙ before_prints identity (watch.starts.entries channel) copies parts.0)
     (none-put channel identity (log ++ watch.put) watches chain.1 parts.1)
 
 -- ---- the first copy of an identity

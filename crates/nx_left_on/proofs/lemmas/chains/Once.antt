@@ -39,7 +39,7 @@ use Rattle.nx_copies.proofs.lemmas.once.Rising.{contains_map, one_of_key}
 use Rattle.nx_copies.proofs.lemmas.printing.Logged.{ended_placed}
 use Rattle.nx_memory.specs.Content.{is_last_known, passing}
 use Rattle.nx_watch.specs.Start.{is_in_order, is_near}
-use Rattle.nx_watch.proofs.lemmas.log.Start.{All-passing}
+use Rattle.nx_memory.proofs.lemmas.Renewed.{All-passing}
 use Rattle.nx_left_on.specs.Chain.{ClocksAreNear, HadEnded, IsChain, Judges, Watch}
 use Rattle.nx_left_on.specs.Chain.{all_copies, all_put, copies_in, events_in}
 use Rattle.nx_left_on.specs.LeftOn.{CutWatch, HasEndedAt, IsHeardInTimeOver, IsSentIn}
@@ -48,10 +48,12 @@ use Rattle.nx_left_on.proofs.lemmas.chains.Chains.{entries_on, start-is}
 use Rattle.nx_left_on.proofs.lemmas.chains.First.{IsRecentTo, first-put}
 use Rattle.nx_left_on.proofs.lemmas.chains.Found.{ended-begin, ended-found, found-within, some-ended}
 use Rattle.nx_left_on.proofs.lemmas.entries.Judging.{events_on-append}
-use Rattle.nx_left_on.proofs.lemmas.entries.Keeping.{all-kept, all-other, none-printed}
-use Rattle.nx_left_on.proofs.lemmas.chains.Links.{HasFirst, all-back, all-front, chain-back, chain-front}
+use Rattle.nx_left_on.proofs.lemmas.entries.Keeping.{all-kept, all-other}
+use Rattle.nx_left_on.proofs.lemmas.chains.Links.{HasFirst, all-back, chain-back, chain-front}
 use Rattle.nx_left_on.proofs.lemmas.chains.Links.{copies-append, copies_of-append, find-first, none-parts}
 use Rattle.nx_left_on.proofs.lemmas.chains.Links.{none-put}
+use Rattle.nx_copies.proofs.lemmas.printing.Laws.{all-front}
+use Rattle.nx_copies.proofs.lemmas.once.Repeats.{before_prints}
 
 -- ---- lists
 
@@ -195,7 +197,7 @@ unknown-from_nothing watches channel identity chain first named none =
     let of_made : All (Lacks identity) (entries_made known first.earlier) =
     subst (All (Lacks identity)) (sym (made_is_kept known first.earlier))
     (lacks-kept identity (printed_copies known first.earlier)
-    (none-printed identity known first.earlier parts.1)) in
+    (before_prints identity known first.earlier parts.1)) in
     let entries = entries_after known first.earlier in
     let same = same_identity-true first.copy.identity identity named in
     ap (λ (x : Identity). is_known x first.copy.moment (last_of most_entries entries)) same

@@ -52,6 +52,7 @@ use Rattle.nx_left_on.proofs.lemmas.chains.Found.{begins-itself, begins-more}
 use Rattle.nx_left_on.proofs.lemmas.chains.Keeps.{acting-begins, keeps-all_by, keeps-behind_by}
 use Rattle.nx_left_on.proofs.lemmas.chains.Keeps.{keeps-some_by, turn-begins_by}
 use Rattle.nx_left_on.proofs.lemmas.entries.Judging.{goes-on, puts-with_by}
+use Rattle.nx_left_on.proofs.lemmas.chains.ByEachRead.{none-stamped}
 
 -- ---- the lines of a beginning of some bytes
 
@@ -361,10 +362,6 @@ module _ {printing : Printing} {Goes : List MarkedCopy → Watch → Type 0}
       (keeps-all_by printing how.laws now entries copies lines file stop watched.printed stands)
 
   -- ---- whatever the watch answers
-
-  none-stamped : {A : Type 0} (list : List A) (one : A) → list ≡ [] → Contains list one → ⊥
-  none-stamped list one e c =
-      let odd : 0 ≡ length list = sym (ap length e) in omega (arith, odd, c.1)
 
   module _ {D R W N : Type 0} (d : WatchDevices D R W N) (now : ℕ) (entries : List MarkedCopy)
       (at : Stamp D (CountedDevice W) (CountedDevice N)) (file : List ℕ)

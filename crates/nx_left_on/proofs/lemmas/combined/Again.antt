@@ -29,7 +29,7 @@ use Rattle.nx_combine.proofs.lemmas.Once.{in_order}
 use Rattle.nx_promises.specs.laws.Together.{none_judged}
 use Rattle.nx_left_on.specs.Together.{IsOver}
 use Rattle.nx_left_on.proofs.lemmas.combined.Named.{AreNamed, family-numbered, named-more, not-better}
-use Rattle.nx_left_on.proofs.lemmas.entries.Keeping.{none-first}
+use Rattle.nx_copies.proofs.lemmas.once.Repeats.{none_first}
 
 pub over-more : (entry : MemoryEntry) (more behind : ℕ) (copy : TaggedCopy) → more ≤ behind
     → IsOver entry more copy → IsOver entry behind copy
@@ -216,7 +216,7 @@ module _ (identity : Identity) (entry : MemoryEntry) (numbered : 0 < identity.nu
       let head : one.copy ≡ x = cc in
       let tail : all_copies (all_printed (judged_after so_far heard) copies)
       ≡ earlier ++ copy ∷ later = cc in
-      let parts = none-first identity x earlier first in
+      let parts = none_first identity x earlier first in
       let other : is_named identity one ≡ false =
       ap (λ (c : TaggedCopy). same_identity c.identity identity) head ∙ parts.0 in
       let over = rest front (behind ++ made) (entries-next so_far heard front behind whole are none)

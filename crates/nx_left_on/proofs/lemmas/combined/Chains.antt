@@ -43,14 +43,16 @@ use Rattle.nx_left_on.specs.Together.{IsKeptWhole, IsOver, StandsLast}
 use Rattle.nx_left_on.proofs.lemmas.Acting.{acting-act}
 use Rattle.nx_left_on.proofs.lemmas.chains.Chains.{entries-append, entries_on, kept-append, known-is}
 use Rattle.nx_receiver.proofs.lemmas.chain.Moments.{newest-before}
-use Rattle.nx_left_on.proofs.lemmas.chains.Links.{all-front, copies_of-append, none-parts}
+use Rattle.nx_left_on.proofs.lemmas.chains.Links.{copies_of-append, none-parts}
 use Rattle.nx_left_on.proofs.lemmas.combined.Again.{over-more, printed-over}
 use Rattle.nx_left_on.proofs.lemmas.combined.Named.{same_back}
 use Rattle.nx_left_on.proofs.lemmas.combined.Whole.{stands-whole, to_end-climbs}
 use Rattle.nx_left_on.proofs.lemmas.entries.Climbing.{Rise, lines-rise}
-use Rattle.nx_left_on.proofs.lemmas.entries.Keeping.{all-kept, all-other, bears}
+use Rattle.nx_left_on.proofs.lemmas.entries.Keeping.{all-kept, all-other}
 use Rattle.nx_left_on.proofs.lemmas.entries.Staying.{IsBehind, Stands, stands-newest, stands-remembered}
 use Rattle.nx_left_on.proofs.lemmas.shortened.Heard.{all-late}
+use Rattle.nx_copies.proofs.lemmas.printing.Laws.{all-front}
+use Rattle.nx_copies.proofs.lemmas.once.Repeats.{bears}
 
 -- ---- one watch
 

@@ -18,9 +18,7 @@ use Rattle.nx_copies.specs.copies.Printing.{copies_of, entries_made, entry_made,
 use Rattle.nx_copies.specs.copies.Printing.{is_number_00, is_printed, printed_copies}
 use Rattle.nx_copies.proofs.lemmas.printing.Judging.{remembered}
 use Rattle.nx_left_on.proofs.lemmas.entries.Climbing.{Climbs}
-
-abbrev pub bears : Identity → TaggedCopy → Bool
-bears identity copy = same_identity copy.identity identity
+use Rattle.nx_copies.proofs.lemmas.once.Repeats.{all_printed, none_first, bears}
 
 -- ---- lists
 
@@ -37,32 +35,6 @@ pub one-first : (identity : Identity) (copy : TaggedCopy) (copies : List TaggedC
 unfolding copies_of
 one-first identity copy copies h =
     ap (λ b. cond b (copy ∷ filter (bears identity) copies) (filter (bears identity) copies)) h
-
-pub none-first : (identity : Identity) (copy : TaggedCopy) (copies : List TaggedCopy)
-    → copies_of identity (copy ∷ copies) ≡ []
-    → (bears identity copy ≡ false) × (copies_of identity copies ≡ [])
-none-first identity copy copies e =
-    elim (bears identity copy) as (λ (b : Bool). bears identity copy ≡ b
-    → (bears identity copy ≡ false) × (copies_of identity copies ≡ [])) [
-      | true ↦ λ h. let bad : copy ∷ copies_of identity copies ≡ [] =
-          sym (one-first identity copy copies h) ∙ e in cc
-      | false ↦ λ h. (h, sym (other-first identity copy copies h) ∙ e)
-    ] refl
-
--- what is printed of all has what all have
-pub all-printed : (P : TaggedCopy → Type 0) (entries : List MemoryEntry) (copies : List TaggedCopy)
-    → All P copies → All P (printed_copies entries copies)
-unfolding printed_copies if_printed
-all-printed P entries [] all = All-nil P
-all-printed P entries (copy ∷ copies) all =
-    let rest = all-printed P (entries ++ entry_made entries copy) copies
-    (All-tail P copy copies all)
-    in
-    elim (is_printed entries copy) as (λ b. All P
-    (cond b (copy ∷ []) [] ++ printed_copies (entries ++ entry_made entries copy) copies)) [
-      | true ↦ All-cons P copy _ (All-head P copy copies all) rest
-      | false ↦ rest
-    ]
 
 -- and so have the entries that are kept of them
 pub all-kept : (P : MemoryEntry → Type 0) (copies : List TaggedCopy)
@@ -84,27 +56,9 @@ pub all-other : (identity : Identity) (copies : List TaggedCopy) → copies_of i
     → All (λ copy. bears identity copy ≡ false) copies
 all-other identity [] e = All-nil (λ (copy : TaggedCopy). bears identity copy ≡ false)
 all-other identity (copy ∷ copies) e =
-    let parts = none-first identity copy copies e in
+    let parts = none_first identity copy copies e in
     All-cons (λ (it : TaggedCopy). bears identity it ≡ false) copy copies parts.0
     (all-other identity copies parts.1)
-
-pub other-all : (identity : Identity) (copies : List TaggedCopy)
-    → All (λ copy. bears identity copy ≡ false) copies → copies_of identity copies ≡ []
-unfolding copies_of
-other-all identity [] all = refl
-other-all identity (copy ∷ copies) all =
-    ap (λ b. cond b (copy ∷ filter (bears identity) copies) (filter (bears identity) copies))
-    (All-head (λ (it : TaggedCopy). bears identity it ≡ false) copy copies all)
-    ∙ other-all identity copies
-    (All-tail (λ (it : TaggedCopy). bears identity it ≡ false) copy copies all)
-
--- where none is heard, none is printed
-pub none-printed : (identity : Identity) (entries : List MemoryEntry) (copies : List TaggedCopy)
-    → copies_of identity copies ≡ [] → copies_of identity (printed_copies entries copies) ≡ []
-none-printed identity entries copies e =
-    other-all identity (printed_copies entries copies)
-    (all-printed (λ copy. bears identity copy ≡ false) entries copies
-    (all-other identity copies e))
 
 -- all copies from this moment on, where they climb
 pub all-climb : (m : ℕ) (copies : List TaggedCopy) → Climbs m copies

@@ -16,7 +16,7 @@ use Rattle.nx_memory.specs.declared.memories.entry.MemoryEntry.{MemoryEntry}
 use Rattle.nx_memory.proofs.lemmas.Content.{newest_behind}
 use Rattle.nx_memory.specs.Content.{is_last_known, passing, renews}
 use Rattle.nx_watch.specs.Start.{is_in_order, is_near, remembered_at}
-use Rattle.nx_watch.proofs.lemmas.log.Start.{All-passing, length-passing}
+use Rattle.nx_memory.proofs.lemmas.Renewed.{All-passing, length-passing}
 
 -- an entry of another identity than this one, and not from before it
 pub record IsBehind (entry other : MemoryEntry) : Type 0 where

@@ -5,11 +5,11 @@ use Rattle.std.proofs.lemmas.Bool.{true≢false}
 use Rattle.std.proofs.lemmas.List.Elements.{All-append, All-cons, All-nil}
 use Rattle.nx_log.specs.Logged.{IsLoggedAs}
 use Rattle.nx_log.specs.Reading.{Head, HoldEntriesToEnd, IsBlank, IsNoBracket, IsPart, IsTail, begun, is_begun, is_first, nothing, reach_behind, torn_line, whole}
-use Rattle.nx_log.proofs.lemmas.reader.Steps.{are_read, with_part}
+use Rattle.nx_log.proofs.lemmas.reader.Steps.{are_read, with_part, part_more}
 use Rattle.nx_log.proofs.lemmas.reading.Brackets.{entry_bracket}
 use Rattle.nx_copies.specs.copies.Shares.{MarkedCopy}
 use Rattle.nx_left_on.specs.ReadBack.{IsAsPut, all_of}
-use Rattle.nx_left_on.proofs.lemmas.reading.Rests.{IsSpace, Rests, blanks_of, head_more, part_more, reach_most, rest_space, rests_first}
+use Rattle.nx_left_on.proofs.lemmas.reading.Rests.{IsSpace, Rests, blanks_of, head_more, reach_most, rest_space, rests_first}
 
 -- a log at rest of which nothing was told
 pub record Quiet (bytes : List ℕ) (entries : List MarkedCopy) : Type 0 where

@@ -11,10 +11,11 @@ use Rattle.nx_log.specs.Entries.{IsUnfinishedEntry, IsWholeEntry}
 use Rattle.nx_log.specs.Reading.{AreRead, Head, IsBlank, IsGap, IsHead, IsLongest, IsNoBracket, IsOfLog, IsPart, IsTail, LogRead, StopAtLine, begun, entries_of, is_begun, is_first, nothing, reach_behind, whole}
 use Rattle.nx_log.proofs.lemmas.reader.Begun.{bracket_begins}
 use Rattle.nx_log.proofs.lemmas.reader.Tails.{reach_append}
-use Rattle.nx_log.proofs.lemmas.reading.Fronts.{front_is_log}
+use Rattle.nx_log.proofs.lemmas.reading.Fronts.{front_is_log, is_blank}
 use Rattle.nx_copies.specs.copies.Shares.{MarkedCopy}
 use Rattle.nx_watch.specs.Watch.{StandsForEntries}
-use Rattle.nx_left_on.proofs.lemmas.reading.Rests.{Closed, Rests, blanks_of, close, head_more, part_more, reach_least, reach_most, reach_space, rest_closed, rest_gate, rest_kept, rest_space, rests_first}
+use Rattle.nx_left_on.proofs.lemmas.reading.Rests.{Closed, Rests, blanks_of, close, head_more, reach_least, reach_most, reach_space, rest_closed, rest_gate, rest_kept, rest_space, rests_first}
+use Rattle.nx_log.proofs.lemmas.reader.Steps.{part_more}
 
 -- ---- bytes within reach
 
@@ -43,15 +44,6 @@ record BlanksFirst (bytes : List ℕ) : Type 0 where
   pub is : bytes ≡ blanks ++ (byte ∷ rest)
   pub are_blanks : All IsBlank blanks
   pub other : ¬ IsBlank byte
-
-is_blank : (byte : ℕ) → IsBlank byte ⊎ (¬ IsBlank byte)
-is_blank byte = elim (cases_eq byte 10) [
-  | inl e ↦ inl (inl e)
-  | inr n ↦ elim (cases_eq byte 32) [
-    | inl e ↦ inl (inr e)
-    | inr m ↦ inr (λ b. elim b [ inl e ↦ n e | inr e ↦ m e ])
-  ]
-]
 
 blanks_first : (bytes : List ℕ) → All IsBlank bytes ⊎ BlanksFirst bytes
 blanks_first [] = inl (All-nil IsBlank)

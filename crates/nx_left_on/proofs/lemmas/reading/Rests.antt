@@ -9,7 +9,7 @@ use Rattle.nx_log.specs.Entries.{IsWholeEntry}
 use Rattle.nx_log.specs.Logged.{IsLoggedAs}
 use Rattle.nx_log.specs.Reading.{AreRead, Head, HoldEntriesToEnd, IsBlank, IsGap, IsHead, IsLogRead, IsNoBracket, IsPart, IsTail, LogRead, begun, entries_of, is_begun, is_first, nothing, nothing_read, reach_behind, whole}
 use Rattle.nx_log.proofs.lemmas.reader.Begun.{bracket_begins}
-use Rattle.nx_log.proofs.lemmas.reader.Steps.{are_read, with_part}
+use Rattle.nx_log.proofs.lemmas.reader.Steps.{are_read, with_part, part_more}
 use Rattle.nx_log.proofs.lemmas.reader.Tails.{all_last, reach_append}
 use Rattle.nx_log.proofs.lemmas.reading.Brackets.{entry_bracket}
 use Rattle.nx_log.proofs.lemmas.reading.Fronts.{Ended, ended}
@@ -124,16 +124,6 @@ blanks_of [] h = All-nil IsBlank
 blanks_of (x ∷ xs) h =
     All-cons IsBlank x xs (inr (All-head IsSpace x xs h))
     (blanks_of xs (All-tail IsSpace x xs h))
-
--- more of a part
-pub part_more : (first : Bool) (part more : List ℕ) → IsPart first part → All IsNoBracket more
-    → IsPart first (part ++ more)
-part_more true part more h k = All-append IsNoBracket part more h k
-part_more false part more h k = (
-  h.0 ++ more,
-  ap (λ l. l ++ more) h.1,
-  All-append IsNoBracket h.0 more h.2 k,
-)
 
 -- what stands behind an entry doesn't change it
 pub head_more : (first : Bool) (head : Head) (front tail other : List ℕ) → is_begun head ≡ false

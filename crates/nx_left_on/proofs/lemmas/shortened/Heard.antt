@@ -10,9 +10,9 @@ use Rattle.nx_copies.specs.Events.{Event, Setting, at_moment, command, element}
 use Rattle.nx_copies.specs.Events.{refused_after, setting_after, setting_after_all, setting_at, settings}
 use Rattle.nx_copies.specs.copies.FoundCopies.{FoundCopy, TaggedCopy, tag, tagged_copies}
 use Rattle.nx_copies.proofs.lemmas.printing.Logged.{length-settings, settings-append}
-use Rattle.nx_left_on.proofs.lemmas.chains.Links.{all-front}
 use Rattle.nx_left_on.proofs.lemmas.entries.Climbing.{IsWithin, Rise}
 use Rattle.nx_left_on.proofs.lemmas.shortened.Acting.{Begun}
+use Rattle.nx_copies.proofs.lemmas.printing.Laws.{all-front}
 
 abbrev IsLate : ℕ → Setting → Type 0
 IsLate floor setting = floor ≤ setting.moment

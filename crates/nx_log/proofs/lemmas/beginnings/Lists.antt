@@ -1,6 +1,6 @@
 -- Lists that two splits of one list compare.
 use Rattle.std.proofs.Common.{◌≡◌, ◌≢◌, ◌≤◌, ◌⊎◌, inl, inr, ℕ, List, [], ◌∷◌, ◌++◌, get_or, drop, length, ap, sym, ◌∙◌, refl, arith, append-nil}
-use Rattle.std.proofs.lemmas.List.{length-append}
+use Rattle.std.proofs.lemmas.List.{length-append, nil_from_length}
 use Rattle.nx_log.specs.private.Stages.{Extends}
 
 -- of two lists that begin one list, one begins the other
@@ -19,18 +19,10 @@ one_extends (a ∷ xs) (b ∷ ys) x y e =
           (record { more = f.more; is = ap (λ l. a ∷ l) f.is ∙ ap (λ h. h ∷ (ys ++ f.more)) here })
     ]
 
-pub no_elements : (xs : List ℕ) → length xs ≡ 0 → xs ≡ []
-no_elements [] h = refl
-no_elements (x ∷ xs) h = absurd (omega (arith, h))
-
 -- what is empty has no elements in front, and none behind
 pub left_nil : (xs ys : List ℕ) → xs ++ ys ≡ [] → xs ≡ []
 left_nil [] ys e = refl
 left_nil (x ∷ xs) ys e = absurd (cc)
-
-pub right_nil : (xs ys : List ℕ) → xs ++ ys ≡ [] → ys ≡ []
-right_nil [] ys e = e
-right_nil (x ∷ xs) ys e = absurd (cc)
 
 -- of two lists that begin one list, one that isn't longer begins the other
 pub shorter_first : (xs ys x y : List ℕ) → length xs ≤ length ys → xs ++ x ≡ ys ++ y → Extends xs ys
@@ -40,7 +32,7 @@ shorter_first xs ys x y short e = elim (one_extends xs ys x y e) [
       let long = ap length f.is ∙ length-append ys f.more in
       record {
         more = [];
-        is = sym (append-nil ys) ∙ ap (λ l. ys ++ l) (sym (no_elements f.more (omega arith)))
+        is = sym (append-nil ys) ∙ ap (λ l. ys ++ l) (sym (nil_from_length f.more (omega arith)))
             ∙ sym f.is ∙ sym (append-nil xs);
       }
 ]
@@ -54,14 +46,8 @@ some_elements (x ∷ xs) h = omega arith
 pub ends_with_one : (xs : List ℕ) (x : ℕ) → xs ++ x ∷ [] ≢ []
 ends_with_one xs x e = omega (arith, ap length e, length-append xs (x ∷ []))
 
--- the beginning of a list with one more element, which lacks some, begins the list
-pub part_of_longer : (xs bytes more : List ℕ) (x : ℕ) → xs ++ x ∷ [] ≡ bytes ++ more → more ≢ []
-    → Extends bytes xs
-part_of_longer xs bytes more x e some =
-    let has = some_elements more some in
-    shorter_first bytes xs more (x ∷ []) (omega (
-      arith,
-      ap length e,
-      length-append xs (x ∷ []),
-      length-append bytes more,
-    )) (sym e)
+-- bytes by a piece and the rest, of which each is known
+pub joined : (bytes spelled rest s r : List ℕ) → bytes ≡ spelled ++ rest → spelled ≡ s → rest ≡ r
+    → bytes ≡ s ++ r
+joined bytes spelled rest s r e is rest_is =
+    e ∙ ap (λ l. l ++ rest) is ∙ ap (λ l. s ++ l) rest_is

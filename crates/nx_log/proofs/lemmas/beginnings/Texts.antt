@@ -9,14 +9,13 @@ use Rattle.nx_code.specs.Reading.{asterisk, characters, is_in_code, newline}
 use Rattle.nx_envelope.specs.Copies.{errors_of}
 use Rattle.nx_log.specs.Logged.{is_text_byte}
 use Rattle.nx_log.specs.private.Stages.{BreakOff, CanEnd, Extends, IsTextOf, Spells}
-use Rattle.nx_log.proofs.lemmas.beginnings.Lists.{no_elements, shorter_first}
+use Rattle.nx_log.proofs.lemmas.beginnings.Lists.{shorter_first}
+use Rattle.std.proofs.lemmas.List.{nil_from_length}
+use Rattle.nx_copies.proofs.lemmas.emissions.Found.{errors-append}
 
 -- one for an asterisk
 abbrev one_of : ℕ → ℕ
 one_of byte = cond (byte == asterisk) 1 0
-
-pub errors_joined : (xs ys : List ℕ) → errors_of (xs ++ ys) ≡ errors_of xs + errors_of ys
-errors_joined xs ys = sum_by-append one_of xs ys
 
 asterisks_all : (k : ℕ) → errors_of (replicate k asterisk) ≡ k
 asterisks_all k = let e : errors_of (replicate k asterisk) ≡ k * 1 =
@@ -43,8 +42,8 @@ pub text_goes_on : (bytes : List ℕ) (errors characters left lacking : ℕ)
 text_goes_on bytes errors characters left lacking letters found have fits =
     let stars = replicate lacking asterisk in
     let lines = replicate (left - lacking) newline in
-    let count = errors_joined bytes (stars ++ lines) in
-    let both = errors_joined stars lines in
+    let count = errors-append bytes (stars ++ lines) in
+    let both = errors-append stars lines in
     let here = asterisks_all lacking in
     let rest = newlines_none (left - lacking) in
     let whole = length-append bytes (stars ++ lines) in
@@ -83,7 +82,7 @@ module _ (bytes rest : List ℕ) (errors characters lacking left : ℕ)
       → left_now + 1 ≡ left → lacking_now ≤ left_now
       → IsRead bytes behind errors characters lacking_now left_now
   next_read byte behind lacking_now left_now first letter errs chars fits =
-      let count = errors_joined r.done (byte ∷ []) in
+      let count = errors-append r.done (byte ∷ []) in
       let long = length-append r.done (byte ∷ []) in
       let has_errors = r.has_errors in
       let has_characters = r.has_characters in
@@ -111,7 +110,7 @@ module _ (bytes rest : List ℕ) (errors characters lacking left : ℕ)
       → CanEnd (Spells (IsTextOf errors characters)) bytes
   text_to_come some none =
       subst (CanEnd (Spells (IsTextOf errors characters)))
-      (sym (r.split ∙ ap (λ l. r.done ++ l) (no_elements rest none) ∙ append-nil r.done))
+      (sym (r.split ∙ ap (λ l. r.done ++ l) (nil_from_length rest none) ∙ append-nil r.done))
       (text_can some)
 
   pub text_breaks : (byte : ℕ) (behind : List ℕ) → 0 < left → rest ≡ byte ∷ behind
@@ -134,10 +133,10 @@ module _ (bytes rest : List ℕ) (errors characters lacking left : ℕ)
         let f = shorter_first next s more y
         (omega (arith, same, length-append r.done (byte ∷ []))) e in
         let whole = sym text.is_spelled ∙ f.is in
-        let errs = ap errors_of whole ∙ errors_joined next f.more in
+        let errs = ap errors_of whole ∙ errors-append next f.more in
         let long = ap length whole ∙ length-append next f.more in
         let most = count_by-le-length (λ b. b == asterisk) f.more in
-        let front = errors_joined r.done (byte ∷ []) in
+        let front = errors-append r.done (byte ∷ []) in
         let front_long = length-append r.done (byte ∷ []) in
         let all = text.has_errors in
         let all_long = text.has_characters in

@@ -2,7 +2,7 @@
 use Rattle.std.proofs.Common.{◌≡◌, inl, inr, ℕ, ◌+◌, ◌-◌, ◌*◌, ◌/◌, ◌%◌, ◌<◌, ◌≤◌, List, [], ◌∷◌, ◌++◌, ap, drop, get_or, pos, sym, ◌∙◌, subst, refl, arith, length, lit≤, append-nil, append_assoc}
 use Rattle.std.specs.Prelude.{codes}
 use Rattle.std.proofs.lemmas.Bool.{cases_lt}
-use Rattle.std.proofs.lemmas.List.{append_cancel_left, length-append}
+use Rattle.std.proofs.lemmas.List.{append_cancel_left, length-append, nil_from_length}
 use Rattle.jiff_core.specs.Calendar.{IsCivilDate, day_count, days_from_civil, days_in_month}
 use Rattle.jiff_core.proofs.CalendarLemmas.{day_count-epoch, day_count-lt_year, day_count-day_of_year, days_in_month_bounds, days_from_civil-day_count, day_count-later_year}
 use Rattle.jiff_core.proofs.MarchLemmas.{day_count-early}
@@ -12,9 +12,9 @@ use Rattle.nx_envelope.specs.Moment.{IsShownAs, last_moment}
 use Rattle.nx_log.specs.declared.entries.lack.Lack.{Lack}
 use Rattle.nx_log.specs.private.Stages.{IsCivilTime, IsNumber, IsTime, Joined, Lacks, Spells, year_from}
 use Rattle.nx_log.specs.declared.entries.lack.Lack.TheVariants.{Unfinished, Broken}
-use Rattle.nx_log.proofs.lemmas.beginnings.Lists.{no_elements}
 use Rattle.nx_log.proofs.lemmas.reading.Pieces.{same_text}
 use Rattle.nx_log.proofs.lemmas.beginnings.Joins.{join, lacks_at, lacks_behind, lacks_same, lacks_within, some_joined}
+use Rattle.nx_log.proofs.lemmas.beginnings.Lists.{joined}
 
 day_count-3000 : day_count (pos 3000) 1 1 ≡ 4_748_153
 day_count-3000 = day_count-early (pos 3000) 12999 1 1 refl (omega arith) (omega arith) (omega arith)
@@ -199,12 +199,6 @@ from_time text time =
     (number (codes ":") 0 59 (moment % 3600 / 60) (omega arith) (omega arith))
     (moment % 60, number (codes ":") 0 59 (moment % 60) (omega arith) (omega arith)))))))))
 
--- two parts of one list, of which each is known
-both : (bytes spelled rest s r : List ℕ) → bytes ≡ spelled ++ rest → spelled ≡ s → rest ≡ r
-    → bytes ≡ s ++ r
-both bytes spelled rest s r e is rest_is =
-    e ∙ ap (λ l. l ++ rest) is ∙ ap (λ l. s ++ l) rest_is
-
 pub to_time : (text : List ℕ) → FromCentury text → Spells IsCivilTime text
 to_time text century =
     let year = century.is_rest in
@@ -213,12 +207,12 @@ to_time text century =
     let hour = day.is_rest in
     let minute = hour.is_rest in
     let second = minute.is_rest in
-    let minutes = both _ _ _ _ _ minute.split minute.is_piece.is_spelled second.1.is_spelled in
-    let hours = both _ _ _ _ _ hour.split hour.is_piece.is_spelled minutes in
-    let days = both _ _ _ _ _ day.split day.is_piece.is_spelled hours in
-    let months = both _ _ _ _ _ month.split month.is_piece.is_spelled days in
-    let years = both _ _ _ _ _ year.split year.is_piece.is_spelled months in
-    let whole = both _ _ _ _ _ century.split century.is_piece.is_spelled years in
+    let minutes = joined _ _ _ _ _ minute.split minute.is_piece.is_spelled second.1.is_spelled in
+    let hours = joined _ _ _ _ _ hour.split hour.is_piece.is_spelled minutes in
+    let days = joined _ _ _ _ _ day.split day.is_piece.is_spelled hours in
+    let months = joined _ _ _ _ _ month.split month.is_piece.is_spelled days in
+    let years = joined _ _ _ _ _ year.split year.is_piece.is_spelled months in
+    let whole = joined _ _ _ _ _ century.split century.is_piece.is_spelled years in
     let low = year_low century.piece year.piece century.is_piece.enough year.is_piece.enough in
     let few = century.is_piece.few in
     let two = year.is_piece.few in
@@ -303,7 +297,7 @@ pub not_lacked : (bytes : List ℕ) (lack : Lack) → Lacks (Spells IsCivilTime)
 not_lacked bytes Unfinished l moment is =
     let short = ap length is.shown.is_text in
     let long = ap length l.1.1.shown.is_text in
-    l.2 (no_elements l.0 (omega (arith, short, long, length-append bytes l.0)))
+    l.2 (nil_from_length l.0 (omega (arith, short, long, length-append bytes l.0)))
 not_lacked bytes (Broken left) l moment is =
     l.never l.behind bytes [] (moment, is) (append_assoc l.front (l.byte ∷ []) l.behind
     ∙ ap (λ b. l.front ++ b) (sym l.first) ∙ sym l.split ∙ sym (append-nil bytes))

@@ -3,7 +3,7 @@ use Rattle.std.proofs.Common.{◌≡◌, ◌≢◌, ℕ, ◌+◌, ◌-◌, List,
 use Rattle.std.specs.Prelude.{◌==◌, decimal}
 use Rattle.std.proofs.lemmas.List.Sums.{count_by-le-length}
 use Rattle.nx_code.specs.Reading.{asterisk}
-use Rattle.std.proofs.lemmas.List.{length-append, take-append-le, take_all}
+use Rattle.std.proofs.lemmas.List.{length-append, take-append-le, take_all, nil_from_length}
 use Rattle.nx_code.specs.Reading.{newline}
 use Rattle.nx_envelope.specs.Identity.{identity_bytes}
 use Rattle.nx_copies.specs.copies.Log.{channel_mark, how_name, missing_newline}
@@ -18,15 +18,9 @@ use Rattle.nx_log.specs.private.Heads.{head_and}
 use Rattle.nx_log.specs.private.Stages.{BreakOff, CanEnd, FromName, Lacks}
 use Rattle.nx_log.specs.declared.entries.lack.Lack.{Lack}
 use Rattle.nx_log.specs.declared.entries.lack.Lack.TheVariants.{Unfinished, Broken}
-use Rattle.nx_log.proofs.lemmas.beginnings.Lists.{no_elements}
 use Rattle.nx_log.proofs.lemmas.reading.Entries.{body_and, entry_on, head_of, one_entry}
 use Rattle.nx_log.proofs.lemmas.reading.Views.{is_entry}
-
--- bytes by a piece and the rest, of which each is known
-joined : (bytes spelled rest s r : List ℕ) → bytes ≡ spelled ++ rest → spelled ≡ s → rest ≡ r
-    → bytes ≡ s ++ r
-joined bytes spelled rest s r e is rest_is =
-    e ∙ ap (λ l. l ++ rest) is ∙ ap (λ l. s ++ l) rest_is
+use Rattle.nx_log.proofs.lemmas.beginnings.Lists.{joined}
 
 ended : (bytes spelled rest s r : List ℕ) (x : ℕ) → bytes ≡ spelled ++ rest → spelled ≡ s ++ x ∷ []
     → rest ≡ r → bytes ≡ s ++ (x ∷ r)
@@ -189,7 +183,7 @@ none_begins bytes Unfinished l one entry more is e =
     let rest = (one_entry one whole.0 entry (bytes ++ l.0) (more ++ l.0) [] is whole.1
     (sym (append_assoc entry more l.0) ∙ ap (λ b. b ++ l.0) (sym e)
     ∙ sym (append-nil (bytes ++ l.0)))).rest in
-    l.2 (no_elements l.0 (omega (arith, ap length rest, length-append more l.0)))
+    l.2 (nil_from_length l.0 (omega (arith, ap length rest, length-append more l.0)))
 none_begins bytes (Broken left) l one entry more is e =
     l.never l.behind entry more (from_entry entry (one, is)) (append_assoc l.front (l.byte ∷ [])
     l.behind ∙ ap (λ b. l.front ++ b) (sym l.first) ∙ sym l.split ∙ e)

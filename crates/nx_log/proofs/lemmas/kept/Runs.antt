@@ -27,16 +27,6 @@ use Rattle.nx_log.proofs.lemmas.runs.Outputs.{chosen-few}
 -- ---- how a run ends
 
 module _ (query : Query) (form : Form) (from : ℕ) (contents : Contents) where
-  -- what ends in a front of the bytes
-  begins_more : (front more : List ℕ) (entries : List PlacedCopy) → BeginKept from front entries
-      → BeginKept from (front ++ more) entries
-  begins_more front more entries b = record {
-    front = b.front;
-    more = b.more ++ more;
-    split = ap (λ l. l ++ more) b.split ∙ append_assoc b.front b.more more;
-    hold = b.hold;
-  }
-
   pub part_ends : (reader : KeptReader) (bytes more : List ℕ) (entries : List PlacedCopy)
       (written : ℕ) → IsAtKept reader from bytes entries
       → WrotePlacedPart query form contents entries written

@@ -2,7 +2,7 @@
 use Rattle.std.proofs.Common.{◌≡◌, ◌≢◌, inl, inr, ℕ, ◌+◌, ◌<◌, ◌≤◌, List, [], ◌∷◌, ◌++◌, length, Some, refl, sym, ap, ◌∙◌, subst, arith, append_assoc, append-nil, length-append}
 use Rattle.nx_kept.specs.Kept.{CanBeKeptLog, IsBehindOpenGates, IsTail, StandsFor, closed_gate}
 use Rattle.nx_kept.proofs.lemmas.KeptLaws.{closed_tail, more_behind, only_tail}
-use Rattle.nx_kept.proofs.lemmas.Steps.{ends_early}
+use Rattle.nx_kept.proofs.lemmas.Steps.{ends_early, nil_right}
 use Rattle.std.proofs.lemmas.List.{take_all}
 use Rattle.nx_log.specs.Entries.{IsWholeEntry}
 use Rattle.nx_log.specs.KeptLog.{ArePlacedFrom, HoldKept, NoEntryStands, longest_entry, places_at}
@@ -13,7 +13,6 @@ use Rattle.nx_log.specs.declared.entries.kept_reader.KeptReader.{KeptReader}
 use Rattle.nx_log.specs.declared.entries.kept_reader.KeptStage.{KeptStage}
 use Rattle.nx_log.specs.declared.entries.kept_reader.KeptStage.TheVariants.{Closed, Gate, Open}
 use Rattle.nx_log.proofs.lemmas.reading.Entries.{entry_bounded, entry_is_some, one_entry}
-use Rattle.nx_log.proofs.lemmas.beginnings.Lists.{right_nil}
 
 -- ---- logged entries are records
 
@@ -141,7 +140,7 @@ none_in_begun held entry more (inr begun) split whole =
     let longer : IsWholeEntry (entry ++ (more ++ begun.0)) =
     subst IsWholeEntry
     (ap (λ l. l ++ begun.0) split ∙ append_assoc entry more begun.0) begun.1 in
-    begun.2 (right_nil more begun.0 (whole_one entry (more ++ begun.0) whole longer))
+    begun.2 (nil_right more begun.0 (whole_one entry (more ++ begun.0) whole longer))
 
 pub open_none : (gate : ℕ) (held : List ℕ) → IsBegun held → NoEntryStands (gate ∷ held)
 open_none gate held begun = λ g entry more split whole.

@@ -19,8 +19,8 @@ use Rattle.nx_log.specs.declared.entries.start.EntryStart.TheVariants.{Broken, W
 use Rattle.nx_log.specs.declared.writing.places.Places.{Places}
 use Rattle.nx_log.proofs.lemmas.kept.Damage.{stops_broken, stops_early, stops_long}
 use Rattle.nx_log.proofs.lemmas.kept.Standing.{placed_more, whole_one, whole_some}
-use Rattle.nx_log.proofs.lemmas.beginnings.Lists.{right_nil}
 use Rattle.nx_log.proofs.lemmas.reader.Steps.{take_over}
+use Rattle.nx_kept.proofs.lemmas.Steps.{nil_right}
 
 -- ---- what is held of an entry
 
@@ -31,7 +31,7 @@ begun_front held n begun = (
   subst IsWholeEntry
       (ap (λ l. l ++ begun.0) (sym (take-append-drop n held))
       ∙ append_assoc (take n held) (drop n held) begun.0) begun.1,
-  λ none. begun.2 (right_nil (drop n held) begun.0 none),
+  λ none. begun.2 (nil_right (drop n held) begun.0 none),
 )
 
 -- what is held isn't whole yet
@@ -174,18 +174,6 @@ module _ (reader : KeptReader) (from : ℕ) (given : List ℕ) (entries : List P
         within = within;
         counted = line_is ∙ ap (λ l. min (line_behind l) most_lines) whole;
       })
-
-  -- the bytes end
-  pub ends_open : reader.held.items ≡ [] → EndsKept from given entries None
-  ends_open none =
-      let o = stands_open in
-      record {
-        front = at.front;
-        tail = o.0 ∷ [];
-        split = given_is ∙ ap (λ l. at.front ++ o.0 ∷ l) none;
-        placed = at.placed;
-        end = tt;
-      }
 
   pub ends_early_at : 0 < length reader.held.items
       → EndsKept from given entries (Some (record { line = reader.line }))

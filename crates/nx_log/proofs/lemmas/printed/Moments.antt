@@ -20,57 +20,13 @@ use Rattle.nx_copies.specs.copies.Printing.{entry_made, if_printed, is_number_00
 use Rattle.nx_copies.specs.copies.Shares.{Given, MarkedCopy, Starts, copies_on, events_for, share, start_on}
 use Rattle.nx_receiver.specs.private.Taken.{AreTakenAfter, IsTakenAfter}
 use Rattle.nx_copies.proofs.lemmas.channels.Shares.{to_end-on}
+use Rattle.nx_receiver.proofs.lemmas.listening.Moments.{IsInRange, lines-in_range}
 use Rattle.nx_receiver.proofs.lemmas.listening.Taken.{taken-each}
 use Rattle.nx_copies.proofs.lemmas.channels.Marked.{all-on}
 use Rattle.nx_log.specs.Logged.{IsLogged}
 use Rattle.nx_log.proofs.lemmas.printed.Copies.{IsFoundText, IsGoodFound, ended_so_far_are, found_to_end_are}
 
 -- ---- the moments of events
-
-abbrev pub IsInRange : Event → Type 0
-IsInRange (at_moment n) = n ≤ last_moment
-IsInRange (element bit) = ⊤
-IsInRange (command c) = ⊤
-
-elements_are : (bits : List Bool) → All IsInRange (fed.elements bits)
-elements_are [] = All-nil IsInRange
-elements_are (bit ∷ bits) = All-cons IsInRange (element bit) (fed.elements bits) tt
-    (elements_are bits)
-
-one_is : (event : Event) → IsInRange event → All IsInRange (event ∷ [])
-one_is event h = All-cons IsInRange event [] h (All-nil IsInRange)
-
-share_is : (b : Bool) (events : List Event) → All IsInRange events
-    → All IsInRange (if b then events else [])
-share_is true events h = h
-share_is false events h = All-nil IsInRange
-
-line_is : (starts : Starts) (channel : Channel) (first : List Line) (line : Line)
-    → IsTakenAfter starts first line → All IsInRange (events_for channel (given_of line))
-line_is starts channel first (moment n) h = one_is (at_moment n) h.1
-line_is starts channel first (elements mark bits) h =
-    share_is (same_channel (channel_of mark) channel) _ (elements_are bits)
-line_is starts channel first (refuse_station mark letter) h =
-    share_is (same_channel (channel_of mark) channel) _
-    (one_is (command (fed.refuse_station letter)) tt)
-line_is starts channel first (accept_station mark letter) h =
-    share_is (same_channel (channel_of mark) channel) _
-    (one_is (command (fed.accept_station letter)) tt)
-line_is starts channel first (refuse_subject mark letter) h =
-    share_is (same_channel (channel_of mark) channel) _
-    (one_is (command (fed.refuse_subject letter)) tt)
-line_is starts channel first (accept_subject mark letter) h =
-    share_is (same_channel (channel_of mark) channel) _
-    (one_is (command (fed.accept_subject letter)) tt)
-
-lines_are : (starts : Starts) (channel : Channel) (first lines : List Line)
-    → AreTakenAfter starts first lines → All IsInRange (events_on channel lines)
-unfolding AreTakenAfter
-lines_are starts channel first [] h = All-nil IsInRange
-lines_are starts channel first (line ∷ lines) h =
-    All-append IsInRange (events_for channel (given_of line)) (events_on channel lines)
-    (line_is starts channel first line h.0)
-    (lines_are starts channel (first ++ line ∷ []) lines h.1)
 
 -- what is in force at an element
 in_force : (now first : Setting) (events : List Event) (place : ℕ) → now.moment ≤ last_moment
@@ -182,10 +138,10 @@ pub open_logged : (starts : Starts) (lines : List Line) (copies : List MarkedCop
     → AreTaken starts lines → HavePrinted starts (given_by lines) copies → All IsLogged copies
 open_logged starts lines copies taken h =
     given_logged starts (given_by lines) copies taken.in_range
-    (λ channel. lines_are starts channel [] lines (taken-each starts lines taken)) h
+    (λ channel. lines-in_range starts channel [] lines (taken-each starts lines taken)) h
 
 pub closed_logged : (starts : Starts) (lines : List Line) (copies : List MarkedCopy)
     → AreTaken starts lines → PrintAllToEnd starts (given_by lines) copies → All IsLogged copies
 closed_logged starts lines copies taken h =
     end_logged starts (given_by lines) copies taken.in_range
-    (λ channel. lines_are starts channel [] lines (taken-each starts lines taken)) h
+    (λ channel. lines-in_range starts channel [] lines (taken-each starts lines taken)) h

@@ -8,7 +8,7 @@ use Rattle.nx_log.specs.Logged.{IsLoggedAs}
 use Rattle.nx_log.specs.Starts.{StartsAs}
 use Rattle.nx_log.specs.declared.entries.start.EntryStart.{EntryStart}
 use Rattle.nx_log.specs.declared.entries.start.EntryStart.TheVariants.{Whole, Unfinished, Broken}
-use Rattle.nx_log.proofs.lemmas.beginnings.Lists.{one_extends, part_of_longer, some_elements}
+use Rattle.nx_log.proofs.lemmas.beginnings.Lists.{one_extends, some_elements}
 use Rattle.nx_log.proofs.lemmas.beginnings.Stages.{nothing_lacks}
 use Rattle.nx_log.proofs.lemmas.beginnings.Wholes.{to_entry}
 use Rattle.nx_log.proofs.lemmas.reading.Gaps.{begins}
@@ -58,43 +58,6 @@ pub whole_or_more : (bytes rest : List ℕ) (one : MarkedCopy) → IsLoggedAs on
 whole_or_more bytes [] one l = inl (one, subst (IsLoggedAs one) (append-nil bytes) l)
 whole_or_more bytes (x ∷ rest) one l =
     inr (x ∷ rest, (one, l), λ e. omega (arith, ap length e))
-
-begins_less : (bytes rest : List ℕ) (one : MarkedCopy) (entry : List ℕ) (last : ℕ)
-    → IsLoggedAs one entry → bytes ++ last ∷ [] ≡ entry ++ rest
-    → IsWholeEntry (bytes ++ last ∷ []) ⊎ BeginsEntry bytes
-begins_less bytes [] one entry last l e =
-    inl (one, subst (IsLoggedAs one) (sym (append-nil entry) ∙ sym e) l)
-begins_less bytes (x ∷ rest) one entry last l e =
-    let f = part_of_longer bytes entry (x ∷ rest) last e (λ n. omega (arith, ap length n)) in
-    inr (record { one = one; entry = entry; rest = f.more; is_entry = l; split = f.is })
-
--- where an entry breaks, none begins, whatever comes
-pub broken_begins_none : (bytes : List ℕ) (place count : ℕ) (more : List ℕ) → Breaks bytes place
-    → place + 1 ≤ count → ¬ BeginsEntry (take count bytes ++ more)
-broken_begins_none bytes place count more broken behind b =
-    let last = get_or bytes place 0 in
-    let v = take (place + 1) bytes in
-    let x = drop (place + 1) (take count bytes) ++ more in
-    let within = broken.within in
-    let whole : v ++ x ≡ b.entry ++ b.rest =
-    sym (append_assoc v (drop (place + 1) (take count bytes)) more)
-    ∙ ap (λ l. (l ++ drop (place + 1) (take count bytes)) ++ more)
-    (sym (take-take (place + 1) count bytes behind))
-    ∙ ap (λ l. l ++ more) (take-append-drop (place + 1) (take count bytes)) ∙ b.split in
-    let step : v ≡ take place bytes ++ last ∷ [] = take_more bytes place 0 within in
-    elim (one_extends v b.entry x b.rest whole) [
-      | inl f ↦
-          elim (whole_or_more v f.more b.one (subst (IsLoggedAs b.one) f.is b.is_entry)) [
-            | inl is ↦ broken.no_whole is
-            | inr lacks ↦ broken.no_more lacks
-          ]
-      | inr f ↦
-          elim (begins_less (take place bytes) f.more b.one b.entry last b.is_entry
-          (sym step ∙ f.is)) [
-            | inl is ↦ broken.no_whole (subst IsWholeEntry (sym step) is)
-            | inr less ↦ unfinished_begins_none (take place bytes) broken.good less
-          ]
-    ]
 
 -- a beginning of an entry breaks nowhere in it
 pub breaks_behind : (held bytes : List ℕ) (place : ℕ) → IsUnfinishedEntry held

@@ -8,7 +8,7 @@ use Rattle.nx_log.specs.declared.entries.start.EntryStart.TheVariants.{Whole, Un
 use Rattle.nx_log.specs.private.Steps.{part_held}
 use Rattle.nx_log.proofs.lemmas.reading.Entries.{entry_bounded}
 use Rattle.nx_log.proofs.lemmas.reader.Begun.{said_of_all, unfinished_short}
-use Rattle.nx_log.proofs.lemmas.beginnings.Lists.{no_elements}
+use Rattle.std.proofs.lemmas.List.{nil_from_length}
 
 -- what is held is no longer than the longest entry
 pub part_short : (bytes : List ℕ) (start : EntryStart) → StartsAs bytes start
@@ -29,7 +29,7 @@ said_of_window held bytes fitting room start is sum s =
   where
     all_or_full : (drop fitting bytes ≡ []) ⊎ (length (held ++ take fitting bytes) ≡ 4146)
     all_or_full = elim (cases_lt room (length bytes)) [
-      | inr fits ↦ inl (no_elements (drop fitting bytes)
+      | inr fits ↦ inl (nil_from_length (drop fitting bytes)
           (omega (arith, is, length-drop fitting bytes)))
       | inl full ↦ inr
           (omega (

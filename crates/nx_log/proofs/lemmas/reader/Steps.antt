@@ -791,10 +791,6 @@ module _ (entry : EntryBegun) (held : List ℕ) (line : ℕ) (given : List ℕ)
           line_is = line_is;
         }
 
--- the rest of a slice
-pub rest_of : (bytes : List ℕ) (k : ℕ) → take (length bytes - k) (drop k bytes) ≡ drop k bytes
-rest_of bytes k = take_all (length bytes - k) (drop k bytes) (omega (arith, length-drop k bytes))
-
 pub broken_fits : (held bytes : List ℕ) (n k : ℕ) → StartsAs (held ++ bytes) (Broken n)
     → k ≡ n - length held → k ≤ length bytes
 broken_fits held bytes n k s e = omega (arith, s.0, e, length-append held bytes)

@@ -4,14 +4,14 @@ use Rattle.std.specs.Prelude.{◌==◌, if◌then◌else◌, count_by}
 use Rattle.std.specs.List.{All}
 use Rattle.std.proofs.lemmas.List.Elements.{All-head, All-nil, All-push, All-tail, All-take}
 use Rattle.std.proofs.lemmas.List.Sums.{sum_by-append}
-use Rattle.std.proofs.lemmas.List.{take-append-le, take_all}
+use Rattle.std.proofs.lemmas.List.{take-append-le, take_all, nil_from_length}
 use Rattle.nx_code.specs.Reading.{newline, space}
 use Rattle.nx_log.specs.Reading.{IsBlank, IsGap, IsInReach, IsNoBracket, TornBegins, line_behind, reach_behind}
 use Rattle.nx_log.specs.private.Standing.{CanTear, StaysGap, IsSomeTail, StandsAs, StandsSomehow, TellsLine, torn_behind, torn_reach_behind, with_blank, with_other, with_torn}
 use Rattle.nx_log.specs.declared.entries.tail.Tail.{Tail}
 use Rattle.nx_log.specs.declared.entries.tail.Shape.{Shape}
 use Rattle.nx_log.specs.declared.entries.tail.Shape.TheVariants as shapes
-use Rattle.nx_log.proofs.lemmas.beginnings.Lists.{no_elements, some_elements}
+use Rattle.nx_log.proofs.lemmas.beginnings.Lists.{some_elements}
 use Rattle.nx_log.proofs.lemmas.reading.Gaps.{same_blanks}
 
 -- ---- lists
@@ -116,7 +116,7 @@ no_gap_more : (bytes : List ℕ) (byte : ℕ) → ¬ IsGap bytes → ¬ IsGap (b
 no_gap_more bytes byte none (inl blank) = none (inl (all_front IsBlank bytes (byte ∷ []) blank))
 no_gap_more bytes byte none (inr one) =
     none (inl (subst (All IsBlank)
-    (sym (no_elements bytes (omega (arith, one, length-append bytes (byte ∷ [])))))
+    (sym (nil_from_length bytes (omega (arith, one, length-append bytes (byte ∷ [])))))
     (All-nil IsBlank)))
 
 no_gap_two : (one byte : ℕ) → ¬ IsBlank one → ¬ IsGap (one ∷ byte ∷ [])
@@ -134,10 +134,6 @@ made is_torn shape reach torn_reach torn_line = record {
   torn_reach = torn_reach;
   torn_line = torn_line;
 }
-
-abbrev TornBefore : Bool → Shape → ℕ → ℕ → ℕ → ℕ → List ℕ → Option (List ℕ) → Type 0
-TornBefore is_torn shape r t l reach bytes torn =
-    StandsAs shape (made is_torn shape r t l) reach bytes torn
 
 pub tear : (is_torn : Bool) (shape : Shape) (r t l reach byte : ℕ) (bytes : List ℕ)
     (torn : Option (List ℕ)) → CanTear shape byte

@@ -20,7 +20,7 @@ use Rattle.nx_envelope.specs.declared.found.How.{How}
 use Rattle.std.proofs.lemmas.Bool.{and_from}
 use Rattle.std.proofs.lemmas.List.{append_cancel_left}
 use Rattle.nx_envelope.specs.declared.identity.Identity.{Identity}
-use Rattle.nx_envelope.proofs.lemmas.headers.Identities.{same_identity-true}
+use Rattle.nx_envelope.proofs.lemmas.headers.Identities.{same_from_bytes}
 use Rattle.nx_log.proofs.lemmas.texts.Moments.{same_number, same_time}
 use Rattle.nx_log.specs.declared.entries.head.LoggedHead.{LoggedHead}
 use Rattle.nx_log.specs.private.Heads.{BeginsWithHead, IsHead, head_and}
@@ -75,13 +75,6 @@ pub record SameEntry (a b : MarkedCopy) (x y : List ℕ) : Type 0 where
   pub entry : a ≡ b
   pub rest : x ≡ y
 
-same_identity : (a b : Identity) → a.b1.byte ≡ b.b1.byte → a.b2.byte ≡ b.b2.byte
-    → a.number ≡ b.number → a ≡ b
-same_identity a b station subject number =
-    same_identity-true a b
-    (and_from _ _ (and_from _ _ (eq-eqb a.b1.byte b.b1.byte station)
-    (eq-eqb a.b2.byte b.b2.byte subject)) (eq-eqb a.number b.number number))
-
 -- a copy by its parts
 abbrev made : Channel → Identity → How → List ℕ → ℕ → Bool → MarkedCopy
 made channel identity how text moment selected = record {
@@ -126,7 +119,7 @@ one_head bytes a b x y l m s o =
     let subject = ap (λ (l : List ℕ). get_or l 2 0) e in
     let number = same_number a.identity.number b.identity.number
     (ap (λ (l : List ℕ). get_or l 3 0) e) (ap (λ (l : List ℕ). get_or l 4 0) e) in
-    let identity = same_identity a.identity b.identity station subject number in
+    let identity = same_from_bytes a.identity b.identity station subject number in
     let mark = same_mark a.channel b.channel _ _ (ap (drop 5) e) in
     let time = same_time a.moment b.moment s.civil o.civil _ _ s.shown o.shown mark.rest in
     let name = same_name a.how b.how _ _ (ap (drop 1) time.rest) in

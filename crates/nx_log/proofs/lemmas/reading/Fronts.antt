@@ -5,11 +5,11 @@ use Rattle.std.proofs.lemmas.List.Elements.{All-cons, All-head, All-nil, All-tai
 use Rattle.std.proofs.lemmas.Bool.{cases_eq}
 use Rattle.nx_log.specs.Entries.{IsUnfinishedEntry}
 use Rattle.nx_log.specs.Reading.{AreRead, Head, IsBlank, IsGap, IsHead, IsLongest, IsNoBracket, IsOfLog, IsPart, IsTail, LogRead, TornBegins, begun, entries_of, is_begun, is_first, nothing, reach_behind, torn_line, whole}
-use Rattle.nx_log.proofs.lemmas.beginnings.Lists.{no_elements}
 use Rattle.nx_log.proofs.lemmas.reader.Begun.{bracket_begins}
 use Rattle.nx_log.proofs.lemmas.reader.Tails.{all_front}
 use Rattle.nx_log.proofs.lemmas.reading.Brackets.{entry_bracket}
 use Rattle.nx_log.proofs.lemmas.reading.Parts.{unfinished_front}
+use Rattle.std.proofs.lemmas.List.{nil_from_length}
 
 -- a list that is empty, or ends with an element
 pub record Ended (xs : List ℕ) : Type 0 where
@@ -23,9 +23,6 @@ ended (x ∷ xs) = inr (elim (ended xs) [
   | inl none ↦ record { front = []; last = x; is = ap (λ l. x ∷ l) none }
   | inr e ↦ record { front = x ∷ e.front; last = e.last; is = ap (λ l. x ∷ l) e.is }
 ])
-
-pub record SameEnd (xs ys : List ℕ) : Type 0 where
-  pub front : xs ≡ ys
 
 pub same_end : (xs ys : List ℕ) (x y : ℕ) → xs ++ x ∷ [] ≡ ys ++ y ∷ [] → xs ≡ ys
 same_end [] [] x y e = refl
@@ -48,7 +45,7 @@ gap_less : (front : List ℕ) (last : ℕ) → IsGap (front ++ last ∷ []) → 
 gap_less front last (inl blank) = inl (all_front IsBlank front (last ∷ []) blank)
 gap_less front last (inr one) =
     inl (subst (All IsBlank)
-    (sym (no_elements front (omega (arith, one, length-append front (last ∷ [])))))
+    (sym (nil_from_length front (omega (arith, one, length-append front (last ∷ [])))))
     (All-nil IsBlank))
 
 begins_less : (is_torn : Bool) (blanks torn : List ℕ) (last : ℕ) → torn ≢ []

@@ -21,9 +21,6 @@ begins one entry l =
     let range = b1.in_range in
     record { letter = b1.byte; more = _; is = e; capital = range.1 }
 
-pub bracket_not_blank : ¬ IsBlank 91
-bracket_not_blank h = elim h [ inl e ↦ omega (arith, e) | inr e ↦ omega (arith, e) ]
-
 -- two splits of one list into blanks and what begins with another byte
 pub record SameSplit (a b x y : List ℕ) : Type 0 where
   pub front : a ≡ b

@@ -2,12 +2,12 @@
 use Rattle.std.proofs.Common.{◌≡◌, inl, inr, ℕ, ◌-◌, Bool, true, false, List, [], ◌∷◌, ◌++◌, get_or, drop, length, Option, Some, None, ap, sym, ◌∙◌, refl, subst, arith, append-nil, append_assoc, length-append}
 use Rattle.std.specs.List.{All}
 use Rattle.std.proofs.lemmas.List.Elements.{All-head, All-tail}
-use Rattle.std.proofs.lemmas.List.{append_cancel_left}
+use Rattle.std.proofs.lemmas.List.{append_cancel_left, nil_from_length}
 use Rattle.nx_copies.specs.copies.Shares.{MarkedCopy}
 use Rattle.nx_log.specs.Entries.{IsUnfinishedEntry}
 use Rattle.nx_log.specs.Logged.{IsLoggedAs}
 use Rattle.nx_log.specs.Reading.{AreRead, Head, IsHead, IsLongest, IsNext, IsNoBracket, IsPart, IsTail, LogRead, begun, entries_of, is_begun, nothing, nothing_read, reach_behind, torn_line, whole}
-use Rattle.nx_log.proofs.lemmas.beginnings.Lists.{no_elements, one_extends, some_elements}
+use Rattle.nx_log.proofs.lemmas.beginnings.Lists.{one_extends, some_elements}
 use Rattle.nx_log.proofs.lemmas.reader.Begun.{unfinished_begins_none, whole_or_more}
 use Rattle.nx_log.proofs.lemmas.reader.Tails.{same_torn}
 use Rattle.nx_log.proofs.lemmas.reading.Entries.{one_entry}
@@ -111,11 +111,11 @@ same_head false (whole one) (whole other) f g t u h k e =
       front = elim (one_extends f g t u e) [
         | inl x ↦
             let none : x.more ≡ [] =
-            no_elements x.more (omega (arith, ap length x.is, size, length-append f x.more)) in
+            nil_from_length x.more (omega (arith, ap length x.is, size, length-append f x.more)) in
             sym (append-nil f) ∙ ap (λ l. f ++ l) (sym none) ∙ sym x.is
         | inr x ↦
             let none : x.more ≡ [] =
-            no_elements x.more (omega (arith, ap length x.is, size, length-append g x.more)) in
+            nil_from_length x.more (omega (arith, ap length x.is, size, length-append g x.more)) in
             x.is ∙ ap (λ l. g ++ l) none ∙ append-nil g
       ];
       tail = same.rest;

@@ -119,24 +119,6 @@ escape-last text at each none =
     ∙ flat_map-append escape_byte (take at text) rest
     ∙ ap (λ l. escape (take at text) ++ l) (plain-text rest plain)
 
--- a text is given up to the end of its next line: what is still to come
-pub escape-front : (text : List ℕ) (at end : ℕ) → All (λ byte. IsTrue (is_text_byte byte)) text
-    → IsFirstByte (is_byte 10) (drop at text) (Some end)
-    → escape text ≡ ((escape (take at text) ++ take end (drop at text)) ++ 92 ∷ 110 ∷ [])
-    ++ escape (drop (at + (end + 1)) text)
-escape-front text at end each found =
-    ap escape (sym (take-append-drop (at + (end + 1)) text))
-    ∙ flat_map-append escape_byte (take (at + (end + 1)) text) (drop (at + (end + 1)) text)
-    ∙ ap (λ l. l ++ escape (drop (at + (end + 1)) text)) (escape-line text at end each found)
-
-pub in_line : (before e piece feed rest : List ℕ)
-    → ((before ++ e) ++ piece) ++ (feed ++ rest) ≡ before ++ (((e ++ piece) ++ feed) ++ rest)
-in_line before e piece feed rest = simp append_assoc
-
-pub behind_line : (before e piece feed rest : List ℕ)
-    → (((before ++ e) ++ piece) ++ feed) ++ rest ≡ before ++ (((e ++ piece) ++ feed) ++ rest)
-behind_line before e piece feed rest = simp append_assoc
-
 pub whole_line : (before e piece feed : List ℕ)
     → ((before ++ e) ++ piece) ++ feed ≡ before ++ ((e ++ piece) ++ feed)
 whole_line before e piece feed = simp append_assoc

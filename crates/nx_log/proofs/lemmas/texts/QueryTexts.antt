@@ -48,8 +48,3 @@ either_low byte false e t =
 pub text_low : (byte : ℕ) → IsTrue (is_text_byte byte) → byte < 128
 unfolding is_text_byte
 text_low byte t = either_low byte (is_in_code byte) refl t
-
-pub text_ascii : (text : List ℕ) → All (λ byte. IsTrue (is_text_byte byte)) text → IsAscii text
-text_ascii text h =
-    IsAscii-from_all text
-    (All-weaker (λ byte. IsTrue (is_text_byte byte)) (λ b. b < 128) text_low text h)

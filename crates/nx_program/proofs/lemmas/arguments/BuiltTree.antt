@@ -11,13 +11,6 @@ use Rattle.nx_program.specs.declared.commands.Row.{Row}
 use Rattle.nx_program.specs.private.Reading.{AddsRule, IsBuiltAs, IsReadAs, row_tree}
 use Rattle.nx_program.specs.private.Reading.{with_rows}
 
-pub rule_added : (rule : Rule) (arg : Arg) (old new : Command) → rule_of arg ≡ rule
-    → arg.global ≡ false → AddsArg old arg new → AddsRule rule old new
-rule_added rule arg old new is own added app built = record {
-  tree = added.shape own ∙ ap₂ with_rule built.tree is;
-  local = added.globals ∙ ap₂ (λ x y. x || y) built.local own;
-}
-
 pub with_one_more : (a b : App) (old sub new : Command) → IsBuiltAs a old → IsBuiltAs b sub
     → AddsSubcommand old sub new → IsBuiltAs (with_subcommand a b.top) new
 with_one_more a b old sub new built sub_built added = record {

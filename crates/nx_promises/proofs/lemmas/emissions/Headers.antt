@@ -14,7 +14,7 @@ use Rattle.nx_envelope.specs.Identity.{identity_bytes}
 use Rattle.nx_envelope.specs.Message.{AreLines, text_of, MessageView}
 use Rattle.nx_envelope.specs.declared.identity.Identity.{Identity}
 use Rattle.nx_envelope.proofs.lemmas.headers.Anywhere.{anywhere_both}
-use Rattle.nx_envelope.proofs.lemmas.headers.Identities.{same_identity-true}
+use Rattle.nx_envelope.proofs.lemmas.headers.Identities.{same_identity-true, same_from_bytes}
 use Rattle.nx_station.specs.Broadcast.{header, printed_text}
 use Rattle.nx_copies.specs.laws.Emissions.{IsHeaderOf}
 use Rattle.nx_copies.proofs.lemmas.emissions.Copies.{sent_header, header_there}
@@ -184,14 +184,6 @@ same_four : {a b c d p q r s : ℕ} {xs ys : List ℕ}
     → SameFour a b c d p q r s
 same_four e = record { first = cc; second = cc; third = cc; fourth = cc }
 
-same_name : (a b : Identity) → a.b1.byte ≡ b.b1.byte → a.b2.byte ≡ b.b2.byte → a.number ≡ b.number
-    → a ≡ b
-same_name a b station subject number =
-    let one : eqb a.b1.byte b.b1.byte ≡ true = eq-eqb a.b1.byte b.b1.byte station in
-    let two : eqb a.b2.byte b.b2.byte ≡ true = eq-eqb a.b2.byte b.b2.byte subject in
-    let three : eqb a.number b.number ≡ true = eq-eqb a.number b.number number in
-    same_identity-true a b (rw (one, two, three) refl)
-
 module _ (messages : List MessageView)
     (good : AllByRecursion (λ (message : MessageView). AreLines message.lines) messages)
     (h : Header) (s : StandsIn (flat_map printed_text messages) h) where
@@ -255,7 +247,7 @@ module _ (messages : List MessageView)
       let four = same_four letters.rest in
       let one = at.message.identity.two_digits in
       let other = h.identity.two_digits in
-      same_name h.identity at.message.identity (sym four.first) (sym four.second)
+      same_from_bytes h.identity at.message.identity (sym four.first) (sym four.second)
       (omega (arith, four.third, four.fourth))
 
   long_behind : h.behind ≡ length front + 9

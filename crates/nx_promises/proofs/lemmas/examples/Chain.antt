@@ -102,16 +102,16 @@ cut-heard : (n : ℕ) → IsCut (elements_among (events_on Zero (lines_heard n))
 cut-heard n = subst (λ (b : List Bool). IsCut b (example_parts first_bits [])) (same n) cut_is
 
 -- the copy, and its place
-first-long : length first_bits ≡ 672
+pub first-long : length first_bits ≡ 672
 first-long =
     let words : length (take 96 damaged_words) ≡ 96 =
     length-take 96 damaged_words ∙ omega (arith, damaged_computed.long) in
     omega (arith, words, length-bits_of (take 96 damaged_words))
 
-place-is : length first_bits + 517 ≡ 1189
+pub place-is : length first_bits + 517 ≡ 1189
 place-is = omega (arith, first-long)
 
-copy-is : found ≡ copy_heard ∷ []
+pub copy-is : found ≡ copy_heard ∷ []
 copy-is =
     alone found (copy_of_sending (example_sending first_bits)) one_found sent_there
     ∙ ap (λ (p : ℕ). copy_of_sending (record { message = example_message; place = p }) ∷ [])
@@ -131,7 +131,7 @@ found-in n Zero = found-first n
 found-in n One = found-none (events_on One (lines_heard n)) (none-among One refl n)
 found-in n Two = found-none (events_on Two (lines_heard n)) (none-among Two refl n)
 
-sent-there : IsSentAt (example_parts first_bits []) example_message 1189
+pub sent-there : IsSentAt (example_parts first_bits []) example_message 1189
 sent-there = subst (IsSentAt (example_parts first_bits []) example_message) place-is
     (example_sent first_bits [])
 

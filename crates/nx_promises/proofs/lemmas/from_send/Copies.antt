@@ -23,7 +23,7 @@ use Rattle.nx_copies.proofs.lemmas.once.Rising.{Rises}
 use Rattle.nx_copies.proofs.lemmas.emissions.Copies.{copy_at, header_of}
 use Rattle.nx_promises.proofs.lemmas.emissions.Headers.{headers_of_messages}
 use Rattle.nx_copies.proofs.lemmas.emissions.Places.{rises_at}
-use Rattle.nx_copies.proofs.lemmas.channels.Marked.{no-length}
+use Rattle.std.proofs.lemmas.List.{nil_from_length}
 
 -- ---- lists of which one item passes a test
 
@@ -43,7 +43,7 @@ none_before p before x after one h passes =
     filter-append p before (x ∷ after)
     ∙ ap (λ l. filter p before ++ l) (kept_first p x after passes) in
     let count = length-append (filter p before) (x ∷ filter p after) in
-    no-length (filter p before) (omega (arith, ap length h, ap length parts))
+    nil_from_length (filter p before) (omega (arith, ap length h, ap length parts))
 
 some_kept : {A : Type 0} (p : A → Bool) (x : A) (xs : List A) → p x ≡ true → filter p (x ∷ xs) ≡ []
     → ⊥

@@ -37,7 +37,7 @@ use Rattle.nx_sync.proofs.lemmas.hunting.Phasing.{length-phasing}
 use Rattle.nx_sync.proofs.lemmas.hunting.PhasingStates.{right_stays}
 use Rattle.nx_copies.specs.copies.LockText.{bytes_of, lock_text, positions, taken_at}
 use Rattle.nx_copies.proofs.lemmas.locks.Texts.{bytes_are_reading}
-use Rattle.nx_copies.proofs.lemmas.emissions.Emissions.{long_heard, phasing_at}
+use Rattle.nx_copies.proofs.lemmas.emissions.Emissions.{long_sent, phasing_at}
 use Rattle.nx_copies.proofs.lemmas.emissions.Locks.{KeepsLock, dx_through, right_1, right_2}
 use Rattle.nx_copies.proofs.lemmas.emissions.Locks.{same_through, stands_through, word_of}
 use Rattle.nx_copies.proofs.lemmas.emissions.Positions.{AreTaken, positions-taken}
@@ -118,14 +118,8 @@ module _ (messages : List MessageView) (numbers : List ℕ) (spellings : List (L
       (λ e. subst (λ (m : List MessageView). AreSpelled m (numbers ∷ spellings)) e spelled)
       is_broadcast
 
-  long_sent : length sent ≡ 75 + length air
-  long_sent = omega (arith, long_heard numbers spellings late has_inner passes, passes.whole)
-
   long : length heard ≡ 149 + 2 * length air
-  long = omega (arith, length-emission sent, long_sent)
-
-  phasing_is : (i : ℕ) → i < 72 → position_at sent i ≡ phasing_position
-  phasing_is i lt = phasing_at numbers spellings late has_inner passes i lt
+  long = omega (arith, length-emission sent, long_sent numbers spellings)
 
   in_code : AreInCode sent
   in_code i h = elim (cases_lt (i + 3) (length sent)) [
@@ -135,16 +129,17 @@ module _ (messages : List MessageView) (numbers : List ℕ) (spellings : List (L
 
   -- the phasing before the first message
   second_at : (j : ℕ) → j < 72 → word_of heard (2 * j) ≡ phasing_2
-  second_at j lt = (IsEmission-emission sent).dx j (omega (arith, long_sent))
-      ∙ ap dx_word (phasing_is j lt)
+  second_at j lt = (IsEmission-emission sent).dx j (omega (arith, long_sent numbers spellings))
+      ∙ ap dx_word (phasing_at numbers spellings j lt)
 
   first_at : (j : ℕ) → j < 74 → word_of heard (2 * j + 1) ≡ phasing_1
   first_at zero lt = (IsEmission-emission sent).first_rx (omega (arith, long))
   first_at (suc zero) lt = (IsEmission-emission sent).second_rx (omega (arith, long))
   first_at (suc (suc i)) lt =
       let at : 2 * suc (suc i) + 1 ≡ 2 * i + 5 = omega arith in
-      ap (word_of heard) at ∙ (IsEmission-emission sent).rx i (omega (arith, long_sent))
-      ∙ ap rx_word (phasing_is i (omega arith))
+      ap (word_of heard) at
+      ∙ (IsEmission-emission sent).rx i (omega (arith, long_sent numbers spellings))
+      ∙ ap rx_word (phasing_at numbers spellings i (omega arith))
 
   -- from slot 96 on the words are those of the channel
   heard_is : (slot : ℕ) → 96 ≤ slot → heard_in late slot ≡ word_of heard slot
@@ -219,7 +214,7 @@ module _ (messages : List MessageView) (numbers : List ℕ) (spellings : List (L
         let dx = ap counts_as (second_at i early) ∙ counts_as-phasing_2 in
         let rx = ap counts_as (ap (word_of heard) at ∙ first_at (i + 2) (omega arith))
         ∙ counts_as-phasing_1 in
-        ap₂ pairing dx rx ∙ ap reception (sym (phasing_is i early))
+        ap₂ pairing dx rx ∙ ap reception (sym (phasing_at numbers spellings i early))
     | inr from ↦
         ap₂ (λ a b. pairing (counts_as a) (counts_as b)) (sym (heard_is (2 * i) (omega arith)))
         (sym (heard_is (2 * i + 5) (omega arith)))
@@ -261,7 +256,7 @@ module _ (messages : List MessageView) (numbers : List ℕ) (spellings : List (L
       let second = word_is (0 + 2 * i + 5) (omega (arith, long, long_taken))
       ∙ ap (word_of heard) rx in
       ap₂ (λ a b. pairing (counts_as a) (counts_as b)) first second
-      ∙ pair_is (i + 2) (omega (arith, long_sent, long_taken))
+      ∙ pair_is (i + 2) (omega (arith, long_sent numbers spellings, long_taken))
       ∙ ap reception (position_is i lt)
 
   first_five : positions Dx lock_word 5 ≡ idle ∷ (idle ∷ [])

@@ -51,11 +51,12 @@ use Rattle.std.proofs.Common.{append-nil, true, false}
 use Rattle.std.proofs.lemmas.List.{length-drop}
 use Rattle.nx_promises.proofs.lemmas.together.Found.{Belongs, IsOfLock, copies_belong}
 use Rattle.nx_promises.proofs.lemmas.together.Parts.{get-drop, get-take, positions_behind, split_at}
-use Rattle.nx_promises.proofs.lemmas.together.Visible.{air_at, long_heard, long_sent, seen-locked}
+use Rattle.nx_promises.proofs.lemmas.together.Visible.{long_heard, seen-locked}
 use Rattle.nx_promises.proofs.lemmas.together.Visible.{seen-some}
 use Rattle.nx_station.proofs.lemmas.reception.PathLaws.{counted, dx-counts, rx-counts, taken-both}
 use Rattle.nx_station.proofs.lemmas.reception.PathLaws.{taken-dx, taken-rx}
 use Rattle.nx_copies.proofs.lemmas.emissions.Emissions.{word_of-heard_in}
+use Rattle.nx_copies.proofs.lemmas.emissions.Emissions.{air_at, long_sent}
 
 -- ---- what is taken of a position
 
@@ -186,7 +187,7 @@ module _ (before after : List Bool) (messages : List MessageView) (zeroth : List
   sent_at j number e =
       let within = slice_get_within numbers j number e in
       let long = length-map numbers traffic_position in
-      air_at zeroth spellings heard has_inner visible (length front + j) (omega (arith, long_air))
+      air_at zeroth spellings (length front + j) (omega (arith, long_air))
       ∙ ap (λ a. get_or a (length front + j) end_position) air_parts
       ∙ get_or-append-add front (map traffic_position numbers ++ back) j end_position
       ∙ get_or_append_left (map traffic_position numbers) back end_position j (omega (arith, long))
@@ -373,7 +374,7 @@ module _ (before after : List Bool) (messages : List MessageView) (zeroth : List
       inside : place + 3 < length sent_of
       inside = omega (
         arith,
-        long_sent zeroth spellings heard has_inner visible,
+        long_sent zeroth spellings,
         long_air,
         behind_within numbers i number there,
       )

@@ -42,7 +42,8 @@ use Rattle.nx_promises.proofs.lemmas.together.Found.{IsOfLock, lock_among}
 use Rattle.nx_promises.proofs.lemmas.together.Headed.{header_found, header_numbers}
 use Rattle.nx_promises.proofs.lemmas.together.Heard.{are_not_idle, count_is, cut_around, dx_all, has_inner}
 use Rattle.nx_promises.proofs.lemmas.together.Heard.{long_air, of_lock, one_taken, sent_at, told_one, word_is}
-use Rattle.nx_promises.proofs.lemmas.together.Visible.{long_sent, seen-locked, seen-some}
+use Rattle.nx_promises.proofs.lemmas.together.Visible.{seen-locked, seen-some}
+use Rattle.nx_copies.proofs.lemmas.emissions.Emissions.{long_sent}
 
 -- ---- a copy arrives
 
@@ -185,7 +186,7 @@ module _ (before after : List Bool) (messages : List MessageView) (zeroth : List
       let air = long_air before after messages zeroth spellings heard told visible l index numbers
       spelled in
       let some = enough in
-      let long = long_sent zeroth spellings heard has visible in
+      let long = long_sent zeroth spellings in
       let place : positions_before (take index (zeroth ∷ spellings)) + i ≡ 72 + (count + i) =
       omega (arith, before_is) in
       let dx_word : w + 2 * i ≡ l.whole + (2 * count + 2 * i) = omega arith in

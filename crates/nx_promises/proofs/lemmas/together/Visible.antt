@@ -29,7 +29,7 @@ use Rattle.nx_copies.proofs.lemmas.emissions.Texts.{layout-parts, on_air}
 use Rattle.nx_promises.specs.laws.Together.{IsSeen, IsVisible}
 use Rattle.nx_copies.proofs.lemmas.emissions.Found.{stands_between}
 use Rattle.nx_station.proofs.lemmas.reception.PathLaws.{inner-no_phasing_1}
-use Rattle.nx_copies.proofs.lemmas.emissions.Emissions.{word_of-heard_in}
+use Rattle.nx_copies.proofs.lemmas.emissions.Emissions.{long_sent, phasing_at, word_of-heard_in}
 
 module _ (numbers : List ℕ) (spellings : List (List ℕ)) (heard : List ℕ)
     (has : HasInner (layout (numbers ∷ spellings)))
@@ -40,50 +40,24 @@ module _ (numbers : List ℕ) (spellings : List (List ℕ)) (heard : List ℕ)
   abbrev air : List SentPosition
   air = on_air 36 (numbers ∷ spellings)
 
-  pub long_sent : length sent ≡ 75 + length air
-  long_sent =
-      ap length (layout-parts numbers spellings)
-      ∙ length-append (replicate 72 phasing_position) (air ++ replicate 3 end_position)
-      ∙ omega (
-        arith,
-        length-replicate 72 phasing_position,
-        length-append air
-            (replicate 3 end_position),
-        length-replicate 3 end_position,
-      )
-
   pub long_heard : length heard ≡ 53 + 2 * length air
-  long_heard = omega (arith, long_sent, visible.whole)
-
-  phasing_at : (i : ℕ) → i < 72 → position_at sent i ≡ phasing_position
-  phasing_at i lt =
-      ap (λ l. get_or l i end_position) (layout-parts numbers spellings)
-      ∙ get_or_append_left (replicate 72 phasing_position) (air ++ replicate 3 end_position)
-      end_position i (omega (arith, length-replicate 72 phasing_position))
-      ∙ get_or-replicate 72 i phasing_position end_position lt
-
-  pub air_at : (i : ℕ) → i < length air → position_at sent (72 + i) ≡ position_at air i
-  air_at i lt =
-      let e : 72 + i - 72 ≡ i = omega arith in
-      ap (λ l. get_or l (72 + i) end_position) (layout-parts numbers spellings)
-      ∙ get_or-append_right (replicate 72 phasing_position) (air ++ replicate 3 end_position) 72
-      (72 + i) end_position (length-replicate 72 phasing_position) (omega arith)
-      ∙ ap (λ n. get_or (air ++ replicate 3 end_position) n end_position) e
-      ∙ get_or_append_left air (replicate 3 end_position) end_position i lt
+  long_heard = omega (arith, long_sent numbers spellings, visible.whole)
 
   second_at : (j : ℕ) → j < 24 → word_of heard (2 * j) ≡ phasing_2
   second_at j lt =
       let slot : 96 + 2 * j ≡ 2 * (48 + j) = omega arith in
       word_of-heard_in heard (2 * j) ∙ ap (heard_in heard) slot
       ∙ visible.phasing (2 * (48 + j)) (omega arith) (omega arith)
-      ∙ word_sent-dx sent (48 + j) ∙ ap dx_word (phasing_at (48 + j) (omega arith))
+      ∙ word_sent-dx sent (48 + j)
+      ∙ ap dx_word (phasing_at numbers spellings (48 + j) (omega arith))
 
   first_at : (j : ℕ) → j < 24 → word_of heard (2 * j + 1) ≡ phasing_1
   first_at j lt =
       let slot : 96 + (2 * j + 1) ≡ 2 * (46 + j) + 5 = omega arith in
       word_of-heard_in heard (2 * j + 1) ∙ ap (heard_in heard) slot
       ∙ visible.phasing (2 * (46 + j) + 5) (omega arith) (omega arith)
-      ∙ word_sent-rx sent (46 + j) ∙ ap rx_word (phasing_at (46 + j) (omega arith))
+      ∙ word_sent-rx sent (46 + j)
+      ∙ ap rx_word (phasing_at numbers spellings (46 + j) (omega arith))
 
   right_before : (j : ℕ) → j < 48 → is_wrong (word_of heard j) ≡ false
   right_before j lt =
@@ -133,14 +107,15 @@ module _ (numbers : List ℕ) (spellings : List (List ℕ)) (heard : List ℕ)
       let slot : 96 + 2 * a ≡ 2 * (48 + a) = omega arith in
       let here : heard_in heard (2 * (48 + a)) ≡ phasing_1 =
       ap (heard_in heard) (sym slot) ∙ sym (word_of-heard_in heard (2 * a)) ∙ one in
-      let inner = position-inner sent has (48 + a) (omega (arith, long_heard, long_sent)) in
+      let inner = position-inner sent has (48 + a)
+      (omega (arith, long_heard, long_sent numbers spellings)) in
       let not_sent : heard_in heard (2 * (48 + a)) ≡ dx_word (position_at sent (48 + a)) → ⊥ =
       λ e. inner-no_phasing_1 (position_at sent (48 + a)) inner (sym e ∙ here) in
       elim (cases_lt (2 * (48 + a)) 144) [
         | inl early ↦ not_sent (visible.phasing (2 * (48 + a)) (omega arith) early
             ∙ word_sent-dx sent (48 + a))
         | inr late ↦ elim (visible.later (2 * (48 + a)) late
-            (omega (arith, long_heard, long_sent))) [
+            (omega (arith, long_heard, long_sent numbers spellings))) [
               | inl as_sent ↦ not_sent (as_sent ∙ word_sent-dx sent (48 + a))
               | inr damaged ↦ damaged (ap weight here ∙ phasing_1-weight)
             ]

@@ -43,31 +43,10 @@ line-is (accept_station mark letter) = refl
 line-is (refuse_subject mark letter) = refl
 line-is (accept_subject mark letter) = refl
 
--- what a line says but for its elements, where it is the line that was ended
-pub kind-said : (latest : Option Line) (found : Option LineKind) (kind : LineKind) (line : Line)
-    → latest ≡ Some line → found ≡ kind_kept latest → found ≡ Some kind → kind_of line ≡ kind
-kind-said latest found kind line e f g =
-    let kinds : Some (kind_of line) ≡ Some kind = sym (ap kind_kept e) ∙ sym f ∙ g in cc
-
 -- the line is the one that its kind says
 pub of-kind : (line : Line) (kind is : LineKind) → kind_of line ≡ kind → kind ≡ is
     → line ≡ line_with is (elements_of line)
 of-kind line kind is e h = line-is line ∙ ap (λ k. line_with k (elements_of line)) (e ∙ h)
-
-pub said : (latest : Option Line) (found : Option LineKind) (kind is : LineKind) (line : Line)
-    → latest ≡ Some line → found ≡ kind_kept latest → found ≡ Some kind → kind ≡ is
-    → line ≡ line_with is (elements_of line)
-said latest found kind is line e f g h =
-    of-kind line kind is (kind-said latest found kind line e f g) h
-
--- the same of a line of elements
-pub said-elements : (latest : Option Line) (found : Option LineKind) (kind : LineKind)
-    (mark : Option Channel) (bits : List Bool) (line : Line) → latest ≡ Some line
-    → found ≡ kind_kept latest → found ≡ Some kind → kind ≡ Elements mark
-    → bits ≡ elements_kept latest → line ≡ elements mark bits
-said-elements latest found kind mark bits line e f g h same =
-    said latest found kind (Elements mark) line e f g h
-    ∙ ap (λ (bits : List Bool). elements mark bits) (sym (same ∙ ap elements_kept e))
 
 -- the line that a reader gave last, where it said this
 pub last-kind : (latest : Option Line) (kind : LineKind) (line : Line)

@@ -273,18 +273,6 @@ elements-set : (channel : Channel) (bits : List Bool)
     → SetsMoment (to_one channel (fed.elements bits))
 elements-set channel bits on setting = elements-keep (same_channel channel on) setting bits
 
-pub line-sets : (line : Line) → SetsMoment (given_of line)
-line-sets (moment n) = moment-sets n
-line-sets (elements mark bits) = elements-set (channel_of mark) bits
-line-sets (refuse_station mark letter) =
-    command-sets (channel_of mark) (fed.refuse_station letter)
-line-sets (accept_station mark letter) =
-    command-sets (channel_of mark) (fed.accept_station letter)
-line-sets (refuse_subject mark letter) =
-    command-sets (channel_of mark) (fed.refuse_subject letter)
-line-sets (accept_subject mark letter) =
-    command-sets (channel_of mark) (fed.accept_subject letter)
-
 -- a receiver has the moment in force after one more
 moment-next : (first was now : Setting) (events more : List Event) (given : List Given)
     (one : Given) → was ≡ setting_after_all first events

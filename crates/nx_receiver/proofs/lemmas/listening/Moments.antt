@@ -65,7 +65,7 @@ line-in_range starts channel first (refuse_subject mark letter) h =
 line-in_range starts channel first (accept_subject mark letter) h =
     share-in_range (same_channel (channel_of mark) channel) _ (one-in_range _ tt)
 
-lines-in_range : (starts : Starts) (channel : Channel) (first lines : List Line)
+pub lines-in_range : (starts : Starts) (channel : Channel) (first lines : List Line)
     → AreTakenAfter starts first lines → All IsInRange (events_on channel lines)
 unfolding AreTakenAfter
 lines-in_range starts channel first [] h = All-nil IsInRange

@@ -60,12 +60,6 @@ air-not_write (air.Line (file.LineLong line)) written e = cc
 air-not_write (air.Line (file.LineCut line)) written e = cc
 air-not_write (air.Line (file.BadLine line)) written e = cc
 
-pub refusal-not_write : {N : Type 0} (number : ℕ) (why : LineRefusal) (written : ℕ)
-    → ◌≡◌ {A = Result N ListenFault} (Err (refusal_fault number why)) (Err (Write written)) → ⊥
-refusal-not_write number refusal.NoMoment written e = cc
-refusal-not_write number (refusal.Moment why) written e = cc
-refusal-not_write number (refusal.Vital subject) written e = cc
-
 -- ---- what a fault says, behind lines of which this holds
 
 explains-line : (printing : Printing) (starts : Starts) (contents : Contents) (extent : Extent)

@@ -52,60 +52,12 @@ write-read written e = cc
 
 -- ---- the file isn't read whole
 
-whole-explains : (extent : Extent) (station from : ℕ) (bytes : List ℕ) (contents : Contents)
-    (why : ReadFault) → ExplainsWhole file_limit bytes why
-    → ExplainsSending station from extent bytes contents (read_fault why)
-whole-explains extent station from bytes contents read.Read h = tt
-whole-explains extent station from bytes contents read.FileTooLong h = h
-whole-explains extent station from bytes contents (read.Memory error) h = tt
-
-whole-read : {N : Type 0} (why : ReadFault)
-    → ◌≡◌ {A = Result Sent SendRunFault} (Err (read_fault why)) (Err Read)
-    → ◌≡◌ {A = Result N ReadFault} (Err why) (Err read.Read)
-whole-read read.Read e = refl
-whole-read read.FileTooLong e = cc
-whole-read (read.Memory error) e = cc
-
-read-whole : {N : Type 0} (why : ReadFault) → ◌≡◌ {A = Result N ReadFault} (Err why) (Err read.Read)
-    → ◌≡◌ {A = Result Sent SendRunFault} (Err (read_fault why)) (Err Read)
-read-whole why e = let same : why ≡ read.Read = cc in ap (λ w. Err (read_fault w)) same
-
-whole-outside : (why : ReadFault) → IsOutside (read_fault why) → IsOutsideWhole why
-whole-outside read.Read h = tt
-whole-outside read.FileTooLong h = h
-whole-outside (read.Memory error) h = tt
-
-whole-write : (why : ReadFault) (written : ℕ)
-    → ◌≡◌ {A = Result Sent SendRunFault} (Err (read_fault why)) (Err (Write written)) → ⊥
-whole-write read.Read written e = cc
-whole-write read.FileTooLong written e = cc
-whole-write (read.Memory error) written e = cc
-
 -- what reading the file whole said
 abbrev pub WasRead : {R W N : Type 0} → Devices R W → (N → List ℕ) → Result N ReadFault → Type 0
 WasRead d items outcome = Reads (input_of d) read.Read
     (λ fault bytes. IsOutsideWhole fault → IsWithin file_limit bytes) outcome
     (AnswersToEnd (λ text bytes. IsWithin file_limit bytes × (items text ≡ bytes))
     (λ extent bytes fault. ExplainsWhole file_limit bytes fault) outcome)
-
-pub unread : {R W N : Type 0} (d : Devices R W) (station from : ℕ) (items : N → List ℕ)
-    (why : ReadFault) → WasRead d items (Err why) → d.writer_after ≡ d.writer
-    → d.writer.failures ≡ 0 → Sends d station from (Err (read_fault why))
-unread {N = N} d station from items why reads same none = record {
-  reads = Reads-on _ _ _ _ _ _ _ reads
-      (λ extent bytes k. whole-explains extent station from bytes _ why k)
-      (λ bytes k h outside. h (whole-outside why outside)) (whole-read why) (read-whole why);
-  writes = record {
-    failed = (
-      λ w. absurd (whole-write why w.0 w.1),
-      λ one. absurd
-          (omega (arith, ap (λ x. x.failures) same, none, one)),
-    );
-    once =
-        omega (arith, ap (λ x. x.failures) same, none);
-  };
-  unwritten = λ other. same;
-}
 
 -- ---- it is read whole
 

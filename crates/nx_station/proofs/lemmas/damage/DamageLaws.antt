@@ -46,12 +46,6 @@ use Rattle.nx_station.proofs.lemmas.damage.Damage.{lines-append, lines-twice}
 
 -- ---- where it begins, and one line more
 
-pub starts : (damage : Damage) → StandsAfter damage (first_for damage) []
-starts damage = record {
-  at = record { kind = refl; begin = omega arith; end = omega arith; phase = refl };
-  counted = refl;
-}
-
 elements-more : (lines : List Line) (line : Line)
     → flat_map (elements_on Zero) (lines ++ (line ∷ []))
     ≡ flat_map (elements_on Zero) lines ++ elements_on Zero line

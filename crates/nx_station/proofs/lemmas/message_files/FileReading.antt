@@ -149,9 +149,5 @@ spelling-long entry = omega (
       (heading entry.subject entry.number) (10 ∷ text_of entry.lines),
 )
 
-pub none-left : (rest : List ℕ) → length rest ≡ 0 → rest ≡ []
-none-left [] h = refl
-none-left (b ∷ rest) h = absurd (omega (arith, h))
-
 pub some-left : (rest : List ℕ) → length rest ≢ 0 → rest ≢ []
 some-left rest h e = h (ap length e)

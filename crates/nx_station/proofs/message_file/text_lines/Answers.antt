@@ -1,8 +1,8 @@
 use Rattle.std.proofs.Common.{◌+◌, refl, ◌∙◌, ap, sym, length, map, arith}
 use Rattle.std.proofs.lemmas.Bool.{eqb-true, eq-eqb, false≢true}
-use Rattle.std.proofs.lemmas.List.{length-append, length-map}
+use Rattle.std.proofs.lemmas.List.{length-append, length-map, nil_from_length}
 use Rattle.nx_envelope.specs.Message.{text_of}
-use Rattle.nx_station.proofs.lemmas.message_files.FileReading.{body-open, body-cut, text-long, none-left, some-left}
+use Rattle.nx_station.proofs.lemmas.message_files.FileReading.{body-open, body-cut, text-long, some-left}
 use Rattle.nx_station.proofs.message_file.text_lines.Goals as goal
 
 pub returns-then-is_empty-clause-fault : goal.returns-then-is_empty-clause-fault
@@ -10,7 +10,7 @@ returns-then-is_empty-clause-fault c subject number named =
     let before = c.loop-line.invariant in
     body-open subject number c.args.before (c.args.before + 1) c.args.bytes.now c.loop-line.rest.now
     (map (λ line. line.now) c.loop-line.lines.items) named before.whole
-    (none-left c.loop-line.rest.now (eqb-true _ _ (sym c.if-is_empty.ensures))) before.inside
+    (nil_from_length c.loop-line.rest.now (eqb-true _ _ (sym c.if-is_empty.ensures))) before.inside
     refl
 
 pub overflow_add-result-3 : goal.overflow_add-result-3

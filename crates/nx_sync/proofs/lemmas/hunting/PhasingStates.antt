@@ -204,11 +204,6 @@ module _ (earlier : List Bool) where
   -- a lock with swapped roles has phasing signal 1 in its DX words
   module _ (t k : ℕ) (limit : t + 7 * k ≡ length earlier)
       (swapped : role_of (first_role (earlier ++ phasing 24) t) k ≡ Rx) where
-    first_dx : role_of (first_role (earlier ++ phasing 24) t) (k + 1) ≡ Dx
-    unfolding role_of
-    first_dx = let e : k + 1 ≡ suc k = omega arith in
-        ap (role_of (first_role (earlier ++ phasing 24) t)) e ∙ ap other_role swapped
-
     first_p1 : word_of_lock (earlier ++ phasing 24) t (k + 1) ≡ phasing_1
     first_p1 = number_at_bit earlier t (k + 1) 7 (omega arith)
         ∙ (phase_at 24 7 (omega arith)).first refl

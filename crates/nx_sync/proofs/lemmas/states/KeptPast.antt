@@ -81,13 +81,6 @@ module _ (bits more : List Bool) where
         (IsPattern-less s (omega (arith, f.here.heard)) here);
   }
 
-  pub Finds-less : (p t : ℕ) → t ≤ length bits → Finds (bits ++ more) p t → Finds bits p t
-  Finds-less p t h f = record {
-    after = f.after;
-    here = IsPattern-less t h f.here;
-    least = λ s after before here. f.least s after before (IsPattern-more s here);
-  }
-
   pub IsReleased-more : (t w : ℕ) {how : _} → 28 ≤ t → IsReleased bits t w how
       → IsReleased (bits ++ more) t w how
   IsReleased-more t w {how} low r =

@@ -10,11 +10,6 @@ use Rattle.nx_code.proofs.lemmas.Packed.{length-elements}
 use Rattle.nx_sync.specs.Steps.{HuntsThrough, IsLastStep, IsStep, IsWordStep, step}
 use Rattle.nx_sync.specs.declared.step.Step.{Step}
 
--- one element is the last of itself
-pub one_last : (h : List Bool) (b : Bool) (s : Step) → IsStep (h ++ b ∷ []) s
-    → IsLastStep h (b ∷ []) s
-one_last h b s is = record { quiet = λ k lt. absurd (omega (arith, lt)); last = is }
-
 -- a word brings its step with the last of its elements
 pub word_last : (h bits : List Bool) (s : Step) → length bits ≡ 7 → IsWordStep h bits s
     → IsLastStep h bits s

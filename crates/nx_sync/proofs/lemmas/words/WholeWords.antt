@@ -111,9 +111,6 @@ same_word held recent recent' seen seen' track filled others x r e d c = record 
 module _ (old : Held) (before bits : List Bool) (track : Track) (a : StandsAfter old before)
     (is : old.track ≡ Some track) (full : old.seen ≡ 28) (limit : track.filled ≡ 0)
     (seven : length bits ≡ 7) where
-  six : List Bool
-  six = take 6 bits
-
   last : Bool
   last = get_or bits 6 false
 

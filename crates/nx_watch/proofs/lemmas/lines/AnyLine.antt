@@ -21,15 +21,9 @@ use Rattle.nx_watch.specs.declared.lines.no_effect.NoEffect.{NoEffect}
 use Rattle.nx_watch.specs.declared.lines.no_effect.NoEffect.TheVariants as reason
 use Rattle.nx_watch.specs.declared.lines.no_effect.NoEffect.TheVariants.{NoLine, NoEnd, PastLast}
 use Rattle.nx_watch.specs.declared.lines.no_effect.NoEffect.TheVariants.{GoesBack, Vital}
+use Rattle.nx_log.proofs.lemmas.runs.Outputs.{AllZip-append}
 
 -- ---- lines one after another
-
-AllZip-append : {A B : Type 0} (R : A → B → Type 0) (xs zs : List A) (ys ws : List B)
-    → AllZip R xs ys → AllZip R zs ws → AllZip R (xs ++ zs) (ys ++ ws)
-AllZip-append R [] zs [] ws h k = k
-AllZip-append R [] zs (y ∷ ys) ws h k = absurd h
-AllZip-append R (x ∷ xs) zs [] ws h k = absurd h
-AllZip-append R (x ∷ xs) zs (y ∷ ys) ws h k = (h.0, AllZip-append R xs zs ys ws h.1 k)
 
 pub AreLines-append : (a b : List ℕ) (la lb : List (Option Line)) (rest : List ℕ)
     → AreLines a la [] → AreLines b lb rest → AreLines (a ++ b) (la ++ lb) rest
@@ -67,15 +61,6 @@ each-said : (lines : List Line) → AllByRecursion IsLine lines
     → AllZip Says (map spelling lines) (map Some lines)
 each-said [] h = tt
 each-said (line ∷ lines) h = ((h.0, refl), each-said lines h.1)
-
-pub AreLines-scanned : (limit : ℕ) (s : Scanning) (bytes : List ℕ) (lines : List Line)
-    → Scans limit s bytes lines → AreLines bytes (map Some lines) s.part
-AreLines-scanned limit s bytes lines h = record {
-  texts = map spelling lines;
-  whole = h.splits.whole ∙ ap (λ l. l ++ s.part) (file-of_texts lines);
-  each = each-said lines h.splits.each;
-  part = h.splits.part.none;
-}
 
 -- and the ended ones of them
 pub AreLines-ended : (limit : ℕ) (s : Scanning) (bytes : List ℕ) (lines : List Line)

@@ -44,12 +44,6 @@ told-out old mid new before after text more (Err fault) none (inl h) ok err coun
           (Appends-trans old mid new text (take err.taken more) h.1 err.appended),
     )
 
-pub three : (a b c d x y z : List ℕ) → a ≡ [] → b ≡ a ++ x → c ≡ b ++ y → d ≡ c ++ z
-    → d ≡ x ++ (y ++ z)
-three a b c d x y z none one two all =
-    all ∙ ap (λ l. l ++ z) (two ∙ ap (λ l. l ++ y) (one ∙ ap (λ l. l ++ x) none))
-    ∙ append_assoc x y z
-
 -- ---- the number of lines without effect
 
 number-by : (count : ℕ) (none one : Bool) → (count == 0) ≡ none → (count == 1) ≡ one

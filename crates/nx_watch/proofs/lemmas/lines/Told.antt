@@ -223,12 +223,6 @@ module _ {F : Type 0} (contents : F → Option (List ℕ)) (notices after : Coun
         },
       )
 
--- before the first line nothing was told beside
-pub not-beside : (old : ToldBefore) (failed : Bool) → failed ≡ false
-    → IsBeside old failed (beside old)
-not-beside old failed well = subst (λ b. IsBeside old b (beside old)) (sym well)
-    (record { same = refl; sides = inr (refl, refl) })
-
 -- ---- all that was told
 
 -- what was told on both sides of one text, behind this one

@@ -72,12 +72,6 @@ begins bytes view seen = (
   sym (take-append-drop view.len bytes),
 )
 
--- so many bytes from a place on are all of them
-pub all-from : (bytes : List ℕ) (at : ℕ)
-    → take (length bytes - at) (drop at bytes) ≡ drop at bytes
-all-from bytes at =
-    take_all (length bytes - at) (drop at bytes) (omega (arith, length-drop at bytes))
-
 -- ---- what is told more
 
 module _ {F : Type 0} (contents : F → Option (List ℕ)) where

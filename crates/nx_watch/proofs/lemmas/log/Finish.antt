@@ -271,11 +271,6 @@ back-apart line last given e = cc
 pub unwritten-apart : unwritten ≡ unread → ⊥
 unwritten-apart e = cc
 
--- one at most, and not one, is none
-pub none-failed : (n : ℕ) → n ≤ 1 → (n ≡ 1 → ⊥) → n ≡ 0
-none-failed zero few other = refl
-none-failed (suc n) few other = absurd (other (omega (arith, few)))
-
 -- before the first line
 pub stands-first : {D C : Type 0} (kind : ReceiverKind C) (disk : TellsOfDisk D)
     (logging : LoggingOver D C) → PrintsLoggable kind.printing

@@ -326,13 +326,6 @@ module _ {D C W N : Type 0} (kind : ReceiverKind C) (disk : TellsOfDisk D)
         subst (All (Was bytes Behind Then)) (sym is)
         (All-cons (Was bytes Behind Then) at stamps now all)
 
-    -- before the first read
-    pub none-stamped : (bytes : List ℕ) (Behind : List (Option Line) → Type 0)
-        (Then : LoggingTo D C W → Type 0) (made : List AStamp) → made ≡ []
-        → All (Was bytes Behind Then) made
-    none-stamped bytes Behind Then made is =
-        subst (All (Was bytes Behind Then)) (sym is) (All-nil (Was bytes Behind Then))
-
     -- the lines at a read begin those of a run that went on to these
     begins : (bytes front more : List ℕ) (all : List (Option Line)) (rest : List ℕ) (most : ℕ)
         (Then : LoggingTo D C W → Type 0) → AreLines front all rest

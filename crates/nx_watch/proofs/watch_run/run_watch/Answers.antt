@@ -22,12 +22,13 @@ use Rattle.nx_watch.specs.declared.line_run.WatchEnd.{WatchEnd}
 use Rattle.nx_watch.specs.declared.line_run.WatchEnd.TheVariants.{Read, Back, Write}
 use Rattle.nx_watch.specs.private.Keeping.{HasKept}
 use Rattle.nx_watch.specs.private.LoggingListener.{logging_to}
-use Rattle.nx_watch.proofs.lemmas.log.Finish.{back-apart, closed-on, end-apart, has-run, heard-on, none-failed, none-yet-failed, stamps-keep, stands-first, unwritten-apart, wrote-some, zip-length}
+use Rattle.nx_watch.proofs.lemmas.log.Finish.{back-apart, closed-on, end-apart, has-run, heard-on, none-yet-failed, stamps-keep, stands-first, unwritten-apart, wrote-some, zip-length}
 use Rattle.nx_watch.proofs.lemmas.log.Stamping.{ends-so, reads-all}
 use Rattle.nx_watch.proofs.lemmas.lines.Run.{acting-cut, acting-idle, ends-idle, tells-some}
 use Rattle.nx_watch.proofs.lemmas.lines.Told.{at-end, at-finish}
 use Rattle.nx_watch.proofs.watch_run.run_watch.Goals as goal
 use Rattle.nx_watch.proofs.watch_run.run_watch.Goals.{After-watch_lines}
+use Rattle.nx_log.proofs.lemmas.runs.Laws.{none_failed}
 
 -- what was told before the first line
 abbrev behind : {F : Type 0} → (F → Option (List ℕ)) → CountedDevice F → List ℕ → ToldBefore
@@ -252,7 +253,7 @@ returns-in-Read-clause-runs g c = λ notices cut told loggable is none range hea
       printed = stood.1.heard.in_turn;
       failed_read =
           (λ e. c.watch_lines.ensures.unread.0 (c.in-Err.is ∙ ap Err c.in-Read.is), λ f. refl);
-      failed_write = none-failed _ c.watch_lines.ensures.written_once
+      failed_write = none_failed _ c.watch_lines.ensures.written_once
           (λ f. absurd (apart-Written (sym (c.in-Err.is ∙ ap Err c.in-Read.is)
           ∙ c.watch_lines.ensures.unwritten.1 f)));
       stamped = stamps-keep kind disk g.W.Write.contents g.F.Write.contents before c.args.first

@@ -2,9 +2,10 @@ use Rattle.std.proofs.Common.{[], reverse, sym, ap, subst, ◌∙◌}
 use Rattle.nx_envelope.specs.Finder.{is_ready_copy}
 use Rattle.nx_envelope.specs.FinderView.{FinderView}
 use Rattle.nx_envelope.specs.private.HeaderStage.{IsStageOf}
-use Rattle.nx_envelope.proofs.lemmas.finder.Hearing.{closes_held, closes_shut, none_held, none-nil}
+use Rattle.nx_envelope.proofs.lemmas.finder.Hearing.{closes_held, closes_shut, none_held}
 use Rattle.nx_envelope.proofs.finder.Finder.close.Goals as goal
 use Rattle.nx_envelope.proofs.finder.Finder.close.Goals.{in-Open, in-Nothing}
+use Rattle.nx_envelope.proofs.lemmas.copies.OneOpenCopy.{open_headers-nil}
 
 pub returns : goal.returns
 returns c =
@@ -25,8 +26,8 @@ returns c =
             (sym (ap (λ (v : FinderView). v.stage) c.self-2.view_is))
             c.restart.ensures.as_new.stage;
         copy = elim c.match-self.branch [
-          | in-Open w ↦ rw w.copy-is none-nil
-          | in-Nothing w ↦ rw w.copy-is none-nil
+          | in-Open w ↦ rw w.copy-is open_headers-nil
+          | in-Nothing w ↦ rw w.copy-is open_headers-nil
         ];
       };
       text = kept ∙ c.restart.ensures.text;

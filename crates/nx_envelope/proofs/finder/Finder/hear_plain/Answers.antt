@@ -7,10 +7,11 @@ use Rattle.nx_envelope.specs.declared.found.HeldCopy.{HeldCopy}
 use Rattle.nx_envelope.specs.declared.found.HeldCopy.TheVariants.{Open}
 use Rattle.nx_envelope.proofs.lemmas.finder.EightBytes.{four_on}
 use Rattle.nx_envelope.proofs.lemmas.finder.Hearing.{held}
-use Rattle.nx_envelope.proofs.lemmas.finder.PlainBytes.{PlainHeard, and_false, begins_no_text, clear, plain_four}
+use Rattle.nx_envelope.proofs.lemmas.finder.PlainBytes.{PlainHeard, begins_no_text, clear, plain_four}
 use Rattle.nx_envelope.proofs.lemmas.finder.PlainBytes.{unmarked, stage_stays, text_begins}
 use Rattle.nx_envelope.proofs.finder.Finder.hear_plain.Goals as goal
 use Rattle.nx_envelope.proofs.finder.Finder.hear_plain.Goals.{then-fresh+else-count-bytes, else-fresh}
+use Rattle.std.proofs.lemmas.Bool.{and_right}
 
 -- the bytes go to the open copy
 heard : (c : goal.After-self-2-1) (text : List ℕ) → StandsAfter c.args.self.now text
@@ -26,7 +27,7 @@ heard c text h =
     omega (arith, c.len.ensures.value, t.room, ap length kept) in
     let begun : (c.in-Open.fresh && begins_no_text (take c.args.count c.args.bytes)) ≡ false =
     elim c.if-fresh.branch [
-      | then-fresh+else-count-bytes w ↦ and_false c.in-Open.fresh _
+      | then-fresh+else-count-bytes w ↦ and_right c.in-Open.fresh _
           (text_begins c.args.count c.args.bytes (search rules) w.if-count-bytes.false)
       | else-fresh w ↦ rw w.if-fresh.false refl
     ] in

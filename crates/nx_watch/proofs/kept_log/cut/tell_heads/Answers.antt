@@ -1,7 +1,8 @@
 use Rattle.std.proofs.Common.{◌++◌, [], arith, rules, subst}
-use Rattle.nx_watch.proofs.lemmas.log.Cutting.{all-from, heads-all, heads-more, tells-heads, tells-nothing}
+use Rattle.nx_watch.proofs.lemmas.log.Cutting.{heads-all, heads-more, tells-heads, tells-nothing}
 use Rattle.nx_watch.specs.private.Cutting.{IsHeadAt}
 use Rattle.nx_watch.proofs.kept_log.cut.tell_heads.Goals as goal
+use Rattle.std.proofs.lemmas.List.{take_rest}
 
 pub loop-at-init : goal.loop-at-init
 loop-at-init g c = record {
@@ -13,7 +14,7 @@ pub loop-at-preserved : goal.loop-at-preserved
 loop-at-preserved g c =
     let so_far = c.loop-at.invariant.told in
     let here = c.tell_head.ensures in
-    let is = subst (λ l. IsHeadAt l here.0) (all-from c.args.bytes.now c.loop-at.at) here.1 in
+    let is = subst (λ l. IsHeadAt l here.0) (take_rest c.args.bytes.now c.loop-at.at) here.1 in
     record {
       inside = search rules;
       told = (

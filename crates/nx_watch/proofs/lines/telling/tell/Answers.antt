@@ -1,8 +1,8 @@
 use Rattle.std.proofs.Common.{◌≡◌, ◌++◌, ◌∙◌, ap, subst}
 use Rattle.std.specs.Prelude.{decimal}
 use Rattle.nx_watch.specs.LineRun.{HasTold}
-use Rattle.nx_watch.proofs.lemmas.lines.Telling.{three}
 use Rattle.nx_watch.proofs.lines.telling.tell.Goals as goal
+use Rattle.nx_log.proofs.lemmas.runs.Telling.{three}
 
 pub returns : goal.returns
 returns g c = λ old text h.

@@ -1,12 +1,12 @@
 use Rattle.std.proofs.Common.{◌≡◌, ◌++◌, ◌+◌, ◌-◌, ◌≤◌, ◌∙◌, [], None, ap, arith, inl, refl, length, length-append, subst, sym, take, drop, min}
-use Rattle.std.proofs.lemmas.List.{take_all}
+use Rattle.std.proofs.lemmas.List.{take_all, take_rest}
 use Rattle.nx_log.specs.LogReading.{LogReading}
 use Rattle.nx_log.specs.LogReader.{Takes, most_lines}
 use Rattle.nx_log.specs.Reading.{line_behind}
 use Rattle.nx_log.specs.Starts.{StartsAs}
 use Rattle.nx_log.specs.private.Standing.{StandsBehind}
 use Rattle.nx_log.specs.private.Steps.{IsAtTail, Opens, TakesWithin, part_held}
-use Rattle.nx_log.proofs.lemmas.reader.Steps.{at_begun, at_broken, at_whole, broken_fits, ends_takes, ends_within, rest_of, takes_behind, within_behind}
+use Rattle.nx_log.proofs.lemmas.reader.Steps.{at_begun, at_broken, at_whole, broken_fits, ends_takes, ends_within, takes_behind, within_behind}
 use Rattle.nx_log.proofs.entries.reader.LogReader.go_on.Goals as goal
 
 pub returns-in-Whole-clause-takes : goal.returns-in-Whole-clause-takes
@@ -57,7 +57,7 @@ returns-in-Broken-clause-within c =
     let k = c.saturating_sub-begun.result in
     subst (TakesWithin (length bytes)) (sym c.behind-in-Broken.ensures)
     (within_behind bytes k c.end.result fits
-    (subst (λ l. TakesWithin (length l) c.end.result) (rest_of bytes k)
+    (subst (λ l. TakesWithin (length l) c.end.result) (take_rest bytes k)
     (ends_within c.pass_tail-passed.result (take (length bytes - k) (drop k bytes)) c.end.new.self
     c.end.result c.pass_tail-passed.ensures.end c.end.ensures)))
   where
@@ -88,7 +88,7 @@ returns-in-Broken-clause-takes c = λ given entries torn opens.
     let piece = take (length bytes - k) (drop k bytes) in
     let at : IsAtTail tail c.line_after-line.result (given ++ take k bytes) entries torn piece =
     subst (IsAtTail tail c.line_after-line.result (given ++ take k bytes) entries torn)
-    (sym (rest_of bytes k))
+    (sym (take_rest bytes k))
     (subst (λ k. IsAtTail tail c.line_after-line.result (given ++ take k bytes) entries torn
     (drop k bytes)) (sym k_is)
     (at_broken c.args.entry held c.args.self.now.line given entries torn bytes o tail
@@ -105,7 +105,7 @@ returns-in-Broken-clause-takes c = λ given entries torn opens.
     (takes_behind c.end.new.self given bytes entries torn k c.end.result
     (broken_fits held bytes n k starts k_is)
     (subst (λ l. Takes (given ++ take k bytes) entries torn l c.end.new.self c.end.result)
-    (rest_of bytes k)
+    (take_rest bytes k)
     (ends_takes tail c.line_after-line.result (given ++ take k bytes) entries torn piece at passed
     e.within e.same (e.line (given ++ take k bytes) at.line_is)
     (e.stands at.before.bytes at.front at.behind reach at_line at.stands) e.end

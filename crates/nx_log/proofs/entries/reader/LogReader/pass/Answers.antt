@@ -3,8 +3,9 @@ use Rattle.nx_log.specs.LogReading.{LogReading}
 use Rattle.nx_log.specs.LogReader.{Takes, most_lines}
 use Rattle.nx_log.specs.Reading.{line_behind}
 use Rattle.nx_log.specs.private.Steps.{EndsTail, Opens}
-use Rattle.nx_log.proofs.lemmas.reader.Steps.{ends_takes, opens, rest_of, takes_behind}
+use Rattle.nx_log.proofs.lemmas.reader.Steps.{ends_takes, opens, takes_behind}
 use Rattle.nx_log.proofs.entries.reader.LogReader.pass.Goals as goal
+use Rattle.std.proofs.lemmas.List.{take_rest}
 
 pub returns-then-opens-clause-takes : goal.returns-then-opens-clause-takes
 returns-then-opens-clause-takes c = λ given entries torn at.
@@ -21,10 +22,11 @@ returns-then-opens-clause-takes c = λ given entries torn at.
     subst (Takes given entries torn bytes c.go_on.new.self) (sym c.behind.ensures)
     (takes_behind c.go_on.new.self given bytes entries torn passed.count c.go_on.result e.within
     (subst (λ l. Takes (given ++ take passed.count bytes) entries torn l c.go_on.new.self
-    c.go_on.result) (rest_of bytes passed.count)
+    c.go_on.result) (take_rest bytes passed.count)
     (c.go_on.ensures.takes (given ++ take passed.count bytes) entries torn
     (subst (Opens (record { reach = passed.tail.reach; line = passed.line }) c.clear.new.self.items
-    passed.line (given ++ take passed.count bytes) entries torn) (sym (rest_of bytes passed.count))
+    passed.line (given ++ take passed.count bytes) entries torn)
+    (sym (take_rest bytes passed.count))
     (subst (λ h. Opens (record { reach = passed.tail.reach; line = passed.line }) h passed.line
     (given ++ take passed.count bytes) entries torn (drop passed.count bytes))
     (sym c.clear.ensures)
