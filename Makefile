@@ -51,7 +51,7 @@ install-lib:
 
 uninstall:
 	rm -f $(DESTDIR)$(PREFIX)/include/navtex.h $(DESTDIR)$(PREFIX)/lib/pkgconfig/navtex.pc
-	rm -f $(DESTDIR)$(PREFIX)/lib/libnavtex.a $(DESTDIR)$(PREFIX)/lib/libnavtex.so $(DESTDIR)$(PREFIX)/lib/libnavtex.so.1
+	rm -f $(DESTDIR)$(PREFIX)/lib/libnavtex.a $(DESTDIR)$(PREFIX)/lib/libnavtex.so $(DESTDIR)$(PREFIX)/lib/libnavtex.so.2
 	rm -f $(DESTDIR)$(PREFIX)/bin/navtex
 	rm -f $(DESTDIR)$(PREFIX)/share/man/man1/navtex.1 $(DESTDIR)$(PREFIX)/share/man/man1/navtex-elements.1
 	rm -f $(DESTDIR)$(PREFIX)/share/man/man1/navtex-tones.1 $(DESTDIR)$(PREFIX)/share/man/man8/navtex-watch.8

@@ -168,9 +168,9 @@ uint32_t nx_open_from(struct nx_receiver *receiver, const uint8_t *state, size_t
 uint32_t nx_hear(struct nx_receiver *receiver, uint8_t channel, const uint8_t *elements, size_t count,
                  size_t *heard, uint8_t *log, size_t capacity, size_t *written);
 
-/* Writes from how many sendings the entry is put together that a channel printed last: more than 1
- * only where it was taken together with its family, 0 before the first. NX_CLOSED or NX_NO_CHANNEL: 0
- * is written. */
+/* Writes from how many sendings the entry is put together that a channel printed last by nx_hear: more
+ * than 1 only where it was taken together with its family. Before the first entry the number says
+ * nothing. NX_CLOSED or NX_NO_CHANNEL: 0 is written. */
 uint32_t nx_sendings(struct nx_receiver *receiver, uint8_t channel, uint64_t *sendings);
 
 /* Sets the moment from here on, of all channels. NX_MOMENT_RANGE, NX_MOMENT_BACK or NX_CLOSED: it

@@ -1,8 +1,8 @@
 /* The receiver that is kept between calls, on an air file on standard input, whose lines are given
  * to it one by one:
  *
- *   stream hear PIECE FAMILIES       writes the log; elements are given in pieces of so many, and so
- *                                    many families are held on each channel
+ *   stream hear PIECE FAMILIES       writes the log; elements are given in pieces of so many, and
+ *                                    so many families are held on each channel
  *   stream sendings FAMILIES         says of each entry that isn't printed by the end on which
  *                                    channel it was printed, and from how many sendings it is put
  *                                    together

@@ -1,5 +1,5 @@
--- What a call answers of a receiver that is kept in memory of its own: what it answers of places, be
--- they plain ones or such as take sendings together (this profile).
+-- What a call answers of a receiver that is kept in memory of its own: what it answers of places,
+-- be they plain ones or such as take sendings together (this profile).
 use Rattle.std.specs.Prelude.{◌≡◌, ◌⊎◌, Bool, true, List, [], ◌∷◌, Option, Some, None}
 use Rattle.nx_handle.specs.PlaceKinds.{PlaceKind}
 use Rattle.nx_handle.specs.Places.{all_closed}

@@ -23,7 +23,7 @@ pub record AreReady {P : Type 0} (kind : PlaceKind P) (families : ℕ) (places :
     pub closed : all_closed kind places ≡ true
     pub room : HaveRoom kind families places
 
--- a receiver is closed, and holds so many families on each channel: none, where its places are plain
+-- a receiver is closed, and holds so many families on each channel: with none its places are plain
 abbrev pub IsReady : ℕ → OpenReceiver → Type 0
 IsReady families (Plain places) = (families ≡ 0) × AreReady plain_place families places
 IsReady families (Combining places) = (families ≢ 0) × AreReady combines families places

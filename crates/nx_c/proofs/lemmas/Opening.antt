@@ -16,7 +16,7 @@ use Rattle.nx_handle.specs.declared.status.Status.{Status}
 use Rattle.nx_handle.specs.declared.status.Status.TheVariants.{Done, Memory, MomentRange}
 use Rattle.nx_handle.proofs.lemmas.Saving.{begins-as}
 use Rattle.nx_c.specs.ByKind.{AnswersIn, OfPlaces, three_closed}
-use Rattle.nx_c.specs.Opening.{IsReady, OpensNew}
+use Rattle.nx_c.specs.Opening.{IsReady, LacksMemory, OpensNew}
 use Rattle.nx_c.specs.declared.receiver.open_receiver.OpenReceiver.{OpenReceiver}
 
 by-late : (late : Bool) → 0 ≡ number_of (cond late MomentRange Done)
@@ -52,25 +52,27 @@ opens Answers would_be_done families new answer ready after few is_ready answers
       refused = λ no. absurd (no done);
     }
 
+-- a receiver was not made for it
+pub opens-none : (Answers : OfPlaces) (would_be_done : Type 0) (families : ℕ)
+    (new : Option OpenReceiver) (answer : ℕ) → families ≤ most_families
+    → LacksMemory Answers would_be_done answer → new ≡ None
+    → OpensNew Answers would_be_done families new answer
+opens-none Answers would_be_done families new answer few lacks none = record {
+  too_many = λ many. absurd (omega (arith, few, many));
+  few = λ _. inr lacks;
+  refused = λ _. none;
+}
+
 -- without memory it answers what is said of places that need none, or that memory lacks
-pub lacks : (Answers : OfPlaces) (would_be_done : Type 0) (families : ℕ)
-    (new : Option OpenReceiver) (plain answer : ℕ) → families ≤ most_families
+pub lacks : (Answers : OfPlaces) (would_be_done : Type 0) (plain answer : ℕ)
     → (plain ≡ 0 → answer ≡ number_of Memory) → (plain ≢ 0 → answer ≡ plain)
     → (plain ≡ 0 → would_be_done)
     → (plain ≢ 0 → answer ≡ plain → Answers PlainPlace plain_place three_closed three_closed)
-    → new ≡ None → OpensNew Answers would_be_done families new answer
-lacks Answers would_be_done families new zero answer few memory same done answers none = record {
-  too_many = λ many. absurd (omega (arith, few, many));
-  few = λ _. inr (inr (memory refl, done refl));
-  refused = λ _. none;
-}
-lacks Answers would_be_done families new (suc n) answer few memory same done answers none =
-    let refuses : suc n ≢ 0 = λ e. omega (arith, e) in record {
-      too_many = λ many. absurd (omega (arith, few, many));
-      few = λ _. inr (inl
-          ((λ e. let is = same refuses in omega (arith, e, is)), answers refuses (same refuses)));
-      refused = λ _. none;
-    }
+    → LacksMemory Answers would_be_done answer
+lacks Answers would_be_done zero answer memory same done answers = inr (memory refl, done refl)
+lacks Answers would_be_done (suc n) answer memory same done answers =
+    let refuses : suc n ≢ 0 = λ e. omega (arith, e) in
+    let is = same refuses in inl ((λ e. omega (arith, e, is)), answers refuses is)
 
 -- a status that says why isn't that of all done
 never-done : (bytes : List ℕ) (why : Status) → RefusesState 3 bytes why → 0 ≡ number_of why → ⊥

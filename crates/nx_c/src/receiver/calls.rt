@@ -1,17 +1,18 @@
-//! The calls of a receiver. Each does with the places of its channels what `nx_handle` does, be they
-//! plain ones or such as take the sendings of a message together.
+//! The calls of a receiver. Each does with the places of its channels what `nx_handle` does, be
+//! they plain ones or such as take the sendings of a message together.
 
-ghost use Rattle.std.specs.Prelude.{◌≡◌, ◌≢◌, IfSome, None, false};
+ghost use Rattle.std.specs.Prelude.{◌≡◌, ◌≢◌, IfSome, None, true, false, ⊤};
 ghost use Rattle.nx_c.specs.ByKind.{AnswersBy, is_closed, three_closed};
-ghost use Rattle.nx_c.specs.Opening.{OpensAt, OpensFromState};
+ghost use Rattle.nx_c.specs.Opening.{LacksMemory, OpensAt, OpensFromState};
 ghost use Rattle.nx_copies.specs.Events as events;
+ghost use Rattle.nx_receiver.specs.air_file_runs.State.{BeginsWith};
 ghost use Rattle.nx_receiver.specs.declared.command.Command.TheVariants.{RefuseStation, AcceptStation, RefuseSubject, AcceptSubject};
 ghost use Rattle.nx_handle.specs.CallerRoom.{room};
 ghost use Rattle.nx_handle.specs.Closing.{AnswersClosing};
 ghost use Rattle.nx_handle.specs.Hearing.{AnswersHearing};
-ghost use Rattle.nx_handle.specs.Opening.{AnswersMoment};
+ghost use Rattle.nx_handle.specs.Opening.{AnswersMoment, AnswersOpening, opening_status};
 ghost use Rattle.nx_handle.specs.Places.{all_hear};
-ghost use Rattle.nx_handle.specs.Saving.{AnswersSaving};
+ghost use Rattle.nx_handle.specs.Saving.{AnswersOpeningFrom, AnswersSaving};
 ghost use Rattle.nx_handle.specs.Selecting.{AnswersSelecting, command_status};
 ghost use Rattle.nx_handle.specs.Sendings.{AnswersSendings};
 ghost use Rattle.nx_handle.specs.Status.{number_of};
@@ -48,7 +49,7 @@ pub extern "C" fn nx_open(
         return Status::TooManyFamilies.number();
     }
     let Ok(mut opened) = OpenReceiver::closed(alloc, families) else {
-        return without_memory(nx_handle::open(&mut closed_places(), moment));
+        return open_without_memory(moment);
     };
     let status = opened.open(moment);
     if status == Status::Done.number() {
@@ -80,13 +81,33 @@ pub extern "C" fn nx_open_from(
         return Status::TooManyFamilies.number();
     }
     let Ok(mut opened) = OpenReceiver::closed(alloc, families) else {
-        return without_memory(nx_handle::open_from(&mut closed_places(), state));
+        return open_from_without_memory(state);
     };
     let status = opened.open_from(state);
     if status == Status::Done.number() {
         receiver.hold(opened, alloc);
     }
     status
+}
+
+/// What opening at a moment answers where there is no memory for it.
+// A call, so that these places take stack only here.
+#[inline(never)]
+fn open_without_memory(moment: u64) -> u32
+    ensures { LacksMemory (λ P kind old new. AnswersOpening kind moment old new result)
+        (opening_status true moment ≡ Done) result }
+{
+    without_memory(nx_handle::open(&mut closed_places(), moment))
+}
+
+/// What opening from a state answers where there is no memory for it.
+// A call as well.
+#[inline(never)]
+fn open_from_without_memory(state: &[u8]) -> u32
+    ensures { LacksMemory (λ P kind old new. AnswersOpeningFrom kind state.now old new result)
+        (BeginsWith state.now (λ states more. ⊤)) result }
+{
+    without_memory(nx_handle::open_from(&mut closed_places(), state))
 }
 
 /// The places of three channels of a closed receiver, which has no memory.
@@ -96,7 +117,7 @@ fn closed_places() -> [PlainPlace; 3]
     [PlainPlace::Closed, PlainPlace::Closed, PlainPlace::Closed]
 }
 
-/// The number of the status of opening where there is no memory, and it would have this status else:
+/// The number of the status of opening without memory, by that of opening places that need none:
 /// what is refused is told first.
 fn without_memory(status: u32) -> u32
     ensures done { status ≡ number_of Done → result ≡ number_of Memory }
@@ -187,8 +208,8 @@ pub extern "C" fn nx_refuse_station(
     station: u8,
 ) -> u32
     ensures { AnswersBy (λ P kind old new. AnswersSelecting kind
-        (command_status channel 3 (RefuseStation station)) (events.refuse_station station) channel old
-        new result) receiver.old.value receiver.new.value }
+        (command_status channel 3 (RefuseStation station)) (events.refuse_station station)
+        channel old new result) receiver.old.value receiver.new.value }
 {
     let Some(mut opened) = receiver.take(alloc) else {
         return Status::Closed.number();
@@ -207,8 +228,8 @@ pub extern "C" fn nx_accept_station(
     station: u8,
 ) -> u32
     ensures { AnswersBy (λ P kind old new. AnswersSelecting kind
-        (command_status channel 3 (AcceptStation station)) (events.accept_station station) channel old
-        new result) receiver.old.value receiver.new.value }
+        (command_status channel 3 (AcceptStation station)) (events.accept_station station)
+        channel old new result) receiver.old.value receiver.new.value }
 {
     let Some(mut opened) = receiver.take(alloc) else {
         return Status::Closed.number();
@@ -228,8 +249,8 @@ pub extern "C" fn nx_refuse_subject(
     subject: u8,
 ) -> u32
     ensures { AnswersBy (λ P kind old new. AnswersSelecting kind
-        (command_status channel 3 (RefuseSubject subject)) (events.refuse_subject subject) channel old
-        new result) receiver.old.value receiver.new.value }
+        (command_status channel 3 (RefuseSubject subject)) (events.refuse_subject subject)
+        channel old new result) receiver.old.value receiver.new.value }
 {
     let Some(mut opened) = receiver.take(alloc) else {
         return Status::Closed.number();
@@ -248,8 +269,8 @@ pub extern "C" fn nx_accept_subject(
     subject: u8,
 ) -> u32
     ensures { AnswersBy (λ P kind old new. AnswersSelecting kind
-        (command_status channel 3 (AcceptSubject subject)) (events.accept_subject subject) channel old
-        new result) receiver.old.value receiver.new.value }
+        (command_status channel 3 (AcceptSubject subject)) (events.accept_subject subject)
+        channel old new result) receiver.old.value receiver.new.value }
 {
     let Some(mut opened) = receiver.take(alloc) else {
         return Status::Closed.number();

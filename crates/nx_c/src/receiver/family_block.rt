@@ -27,7 +27,7 @@ impl Model for FamilyBlock {
 
 impl FamilyBlock {
     /// Room for so many families, none of which began. Fails where there is no memory for it.
-    // One place after another is made in the block, so no more than one lies on the stack.
+    // One place after another is made in the block, so that none has to lie on the stack.
     pub(crate) fn of(alloc: Global, count: usize) -> Result<FamilyBlock, AllocError>
         ensures { IfOk result (λ block. length block ≡ count) }
     {

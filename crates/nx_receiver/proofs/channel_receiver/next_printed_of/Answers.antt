@@ -5,10 +5,6 @@ use Rattle.nx_receiver.proofs.lemmas.receiver.Feeds.{fed_none, fed_packed, fed_q
 use Rattle.nx_receiver.proofs.lemmas.receiver.Given.{no_head}
 use Rattle.nx_receiver.proofs.channel_receiver.next_printed_of.Goals as goal
 
-pub loop-heard-init : goal.loop-heard-init
-loop-heard-init g c =
-    fed_none g.R.ChannelReceiver.kind c.args.receiver.now (drop c.args.from c.args.packed.now)
-
 -- an entry is printed
 pub returns-then-is_some-clause-stands : goal.returns-then-is_some-clause-stands
 returns-then-is_some-clause-stands g c start history log stands =
@@ -66,8 +62,3 @@ returns-in_default-clause-first g c =
     (λ start history log s. c.hear-count.ensures.stands start history log s)
     (λ start history log s k lt. c.hear-count.ensures.first start history log s k lt) in
     λ start history log stands k lt. fed_before h start history log stands k lt
-
--- all was heard
-pub returns-clause-stands : goal.returns-clause-stands
-returns-clause-stands g c start history log stands =
-    fed_no_copy c.loop-heard.invariant start history log stands

@@ -71,7 +71,7 @@ combined-is positions copy h selected = go (is_better copy (given_by positions c
 joined-is : (heard : HeardCopy) → HasHeardText heard → heard.copy.selected ≡ true
     → (number : ℕ) (o : Option Family)
     → CanStand (option_map_or
-    (λ family. together number (joined_by heard family).positions heard) o (alone None heard))
+    (λ family. together number (joined_by heard family) heard) o (alone None heard))
 joined-is heard h selected number None = loggable heard.copy h selected
 joined-is heard h selected number (Some family) =
     combined-is (joined_by heard family).positions heard.copy h selected

@@ -1,12 +1,9 @@
-use Rattle.std.proofs.Common.{◌≡◌, ◌≤◌, ◌∙◌, None, List, subst, sym, true, arith}
+use Rattle.std.proofs.Common.{◌≡◌, ◌≤◌, ◌∙◌, None, subst, sym, true, arith}
 use Rattle.nx_combine.specs.Families.{most_families}
 use Rattle.nx_handle.specs.Opening.{AnswersOpening, opening_status}
-use Rattle.nx_handle.specs.PlainPlaces.{plain_place}
-use Rattle.nx_handle.specs.declared.plain_place.PlainPlace.{PlainPlace}
 use Rattle.nx_handle.specs.declared.status.Status.TheVariants.{Done}
-use Rattle.nx_c.specs.ByKind.{three_closed}
 use Rattle.nx_c.specs.Opening.{IsReady, OpensAt}
-use Rattle.nx_c.proofs.lemmas.Opening.{is-none, lacks, opens, status-done}
+use Rattle.nx_c.proofs.lemmas.Opening.{is-none, opens, opens-none}
 use Rattle.nx_c.proofs.receiver.calls.nx_open.Goals as goal
 
 pub returns-in_default : goal.returns-in_default
@@ -14,30 +11,22 @@ returns-in_default c =
     let none : c.args.receiver.now.value ≡ None =
     is-none c.args.receiver.now.value c.is_open.result c.is_open.ensures.open
     c.if-is_open.false in
-    let few : c.args.families ≤ most_families = omega (arith, c.if-families-gt-MAX_FAMILIES.false) in
-    let closed = c.closed_places.ensures in
-    let told : AnswersOpening plain_place c.args.moment three_closed c.open.new.places c.open.result =
-    subst (λ (p : List PlainPlace). AnswersOpening plain_place c.args.moment p c.open.new.places
-    c.open.result) closed c.open.ensures in
+    let few : c.args.families ≤ most_families =
+    omega (arith, c.if-families-gt-MAX_FAMILIES.false) in
     subst (λ o. OpensAt c.args.moment c.args.families o c.is_open.new.self.value
-    c.without_memory.result) (sym none)
-    (lacks (λ P kind old new. AnswersOpening kind c.args.moment old new c.without_memory.result)
-    (opening_status true c.args.moment ≡ Done) c.args.families c.is_open.new.self.value
-    c.open.result c.without_memory.result few c.without_memory.ensures.done
-    c.without_memory.ensures.refused
-    (λ done. status-done c.args.moment (sym done ∙ told.cause))
-    (λ no same. subst (λ n. AnswersOpening plain_place c.args.moment three_closed three_closed n)
-    (sym same)
-    (subst (λ (p : List PlainPlace). AnswersOpening plain_place c.args.moment three_closed p
-    c.open.result) (told.refused no) told))
-    (c.is_open.ensures.unchanged ∙ none))
+    c.open_without_memory.result) (sym none)
+    (opens-none (λ P kind old new. AnswersOpening kind c.args.moment old new
+    c.open_without_memory.result) (opening_status true c.args.moment ≡ Done)
+    c.args.families c.is_open.new.self.value c.open_without_memory.result few
+    c.open_without_memory.ensures (c.is_open.ensures.unchanged ∙ none))
 
 pub returns-then-status-number : goal.returns-then-status-number
 returns-then-status-number c =
     let none : c.args.receiver.now.value ≡ None =
     is-none c.args.receiver.now.value c.is_open.result c.is_open.ensures.open
     c.if-is_open.false in
-    let few : c.args.families ≤ most_families = omega (arith, c.if-families-gt-MAX_FAMILIES.false) in
+    let few : c.args.families ≤ most_families =
+    omega (arith, c.if-families-gt-MAX_FAMILIES.false) in
     subst (λ o. OpensAt c.args.moment c.args.families o c.hold.new.self.value
     c.open-status.result) (sym none)
     (opens (λ P kind old new. AnswersOpening kind c.args.moment old new c.open-status.result)

@@ -7,9 +7,11 @@ use Rattle.nx_c.proofs.receiver.calls.nx_refuse_subject.Goals as goal
 
 pub returns : goal.returns
 returns c =
-    answers-kept (λ P kind old new. AnswersSelecting kind
-    (command_status c.args.channel 3 (RefuseSubject c.args.subject)) (events.refuse_subject c.args.subject)
-    c.args.channel old new c.select-status.result)
-    c.args.receiver.now.value c.hold.new.self.value c.deref_mut.result.now c.select-status.new.self
-    (c.in-Some.ensures.opened ∙ ap Some (sym c.deref_mut.ensures.value)) c.select-status.ensures
-    c.hold.ensures
+    let old = c.args.receiver.now.value in let new = c.hold.new.self.value in
+    let was = c.deref_mut.result.now in let after = c.select-status.new.self in
+    let had = c.in-Some.ensures.opened ∙ ap Some (sym c.deref_mut.ensures.value) in
+    let asked = command_status c.args.channel 3 (RefuseSubject c.args.subject) in
+    let one = events.refuse_subject c.args.subject in
+    answers-kept (λ P kind old new. AnswersSelecting kind asked one c.args.channel old new
+    c.select-status.result)
+    old new was after had c.select-status.ensures c.hold.ensures

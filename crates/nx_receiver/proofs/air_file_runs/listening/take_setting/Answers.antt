@@ -4,13 +4,6 @@ use Rattle.nx_receiver.proofs.lemmas.listening.Lines.{command-taken, kind-gives,
 use Rattle.nx_receiver.proofs.lemmas.listening.Lines.{spared}
 use Rattle.nx_receiver.proofs.air_file_runs.listening.take_setting.Goals as goal
 
-pub returns-in-Moment : goal.returns-in-Moment
-returns-in-Moment g c = λ starts lines line bytes e h.
-    taken-as g.C.ChannelReceiver.kind starts c.args.listener.now c.take_moment.new.listener lines
-    line (moment c.in-Moment.moment)
-    bytes c.take_moment.result (of-kind line _ _ e c.in-Moment.is)
-    (c.take_moment.ensures starts lines bytes h)
-
 pub returns-in_ok-command-in_default : goal.returns-in_ok-command-in_default
 returns-in_ok-command-in_default g c = λ starts lines line bytes e h.
     let on = c.of_line-channel.result in

@@ -103,8 +103,3 @@ pub returns-in-Cut-clause-good : goal.returns-in-Cut-clause-good
 returns-in-Cut-clause-good g c =
     good_answer (g.R.Read.remaining c.args.reader.now.inner) (Err (StateCut c.loop-line.line))
     (returns-in-Cut-clause-reads g c).file
-
-pub returns-in-Failed-clause-good : goal.returns-in-Failed-clause-good
-returns-in-Failed-clause-good g c =
-    good_answer (g.R.Read.remaining c.args.reader.now.inner) (Err Read)
-    (returns-in-Failed-clause-reads g c).file

@@ -11,14 +11,6 @@ use Rattle.nx_receiver.proofs.lemmas.state.Writing.{given-next, given-none, sent
 use Rattle.nx_receiver.proofs.lemmas.state.Writing.{state_bytes-is, take-all, wrote-front}
 use Rattle.nx_receiver.proofs.air_file_runs.state.write_state.Goals as goal
 
-pub loop-line-init : goal.loop-line-init
-loop-line-init g c = record {
-  none = c.requires;
-  within = omega arith;
-  given = given-none (g.W.Write.contents c.args.writer.now.inner) c.new-batch.result
-      c.new-batch.ensures.bytes c.new-batch.ensures.sent;
-}
-
 pub loop-line-smaller : goal.loop-line-smaller
 loop-line-smaller g c =
     omega (

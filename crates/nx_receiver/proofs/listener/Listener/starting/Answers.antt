@@ -9,13 +9,6 @@ use Rattle.nx_copies.specs.copies.Shares.{start_on, starts_from}
 use Rattle.nx_receiver.proofs.lemmas.listening.Listener.{heard-first, starts-first}
 use Rattle.nx_receiver.proofs.listener.Listener.starting.Goals as goal
 
--- the later of two moments is in range where both are
-later-in_range : (one other : Option ℕ) (last : ℕ) → unwrap_or one 0 ≤ last
-    → unwrap_or other 0 ≤ last → unwrap_or (later_of one other) 0 ≤ last
-later-in_range None other last h k = k
-later-in_range (Some n) None last h k = h
-later-in_range (Some n) (Some m) last h k = omega (arith, h, k)
-
 pub returns-clause-heard : goal.returns-clause-heard
 returns-clause-heard g c =
     let starts = starts_from c.args.saved.now in
@@ -31,17 +24,6 @@ returns-clause-heard g c =
     (c.in_ok-on_2.ensures.stands (start_on starts Two)
     (sym (ap (λ (s : SavedState). s.entries) c.kept_on-selected_2.ensures.kept)) same
     (sym c.kept_on-selected_2.ensures.selected))
-
-pub returns-clause-range : goal.returns-clause-range
-returns-clause-range g c =
-    let saved = c.args.saved.now in
-    let on_0 = newest_of saved.on_0.entries in
-    let on_1 = newest_of saved.on_1.entries in
-    let on_2 = newest_of saved.on_2.entries in
-    later-in_range on_0 (later_of on_1 on_2) last_moment
-    c.kept_on-selected_0.ensures.sound.in_range
-    (later-in_range on_1 on_2 last_moment c.kept_on-selected_1.ensures.sound.in_range
-    c.kept_on-selected_2.ensures.sound.in_range)
 
 pub returns-clause-start : goal.returns-clause-start
 returns-clause-start g c =
@@ -64,12 +46,3 @@ returns-clause-start g c =
     ∙ ap (λ (s : SavedState). s.entries) c.kept_on-selected_1.ensures.kept)
     (c.in_ok-on_2.ensures.kept
     ∙ ap (λ (s : SavedState). s.entries) c.kept_on-selected_2.ensures.kept)
-
-pub from_saved-requires-2-clause-newest : goal.from_saved-requires-2-clause-newest
-from_saved-requires-2-clause-newest g c = grind (arith, common_steps)
-
-pub from_saved-requires-3-clause-newest : goal.from_saved-requires-3-clause-newest
-from_saved-requires-3-clause-newest g c = grind (arith, common_steps)
-
-pub from_saved-requires-clause-newest : goal.from_saved-requires-clause-newest
-from_saved-requires-clause-newest g c = grind (arith, common_steps)

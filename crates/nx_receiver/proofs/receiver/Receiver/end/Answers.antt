@@ -23,9 +23,3 @@ returns-clause-stands g c start history log stands =
     before.printed before.memory
     (λ entries h. ap (λ (w : CopyHearing). headed_list c.judge_ready.result w.reader.finder.text)
     c.judge_ready.ensures.hearer ∙ c.judge_ready.ensures.printed entries h)
-
-pub returns-clause-head : goal.returns-clause-head
-returns-clause-head g c =
-    subst (λ (w : CopyHearing). IfSome c.judge_ready.result
-    (λ head. HeadsText head w.reader.finder.text)) (sym c.judge_ready.ensures.hearer)
-    c.judge_ready.ensures.head

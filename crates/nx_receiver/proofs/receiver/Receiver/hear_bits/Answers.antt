@@ -5,9 +5,6 @@ use Rattle.nx_receiver.proofs.lemmas.receiver.Feeds.{awaits_nothing, fed_awaits,
 use Rattle.nx_receiver.proofs.lemmas.receiver.Feeds.{fed_none, fed_quiet, is_none}
 use Rattle.nx_receiver.proofs.receiver.Receiver.hear_bits.Goals as goal
 
-pub loop-at-init : goal.loop-at-init
-loop-at-init g c = fed_none (plain_kind g.M.Recall.content) c.args.self.now c.args.bits.now
-
 pub returns-then-is_some-clause-stands : goal.returns-then-is_some-clause-stands
 returns-then-is_some-clause-stands g c =
     let h = fed_bits (plain_kind g.M.Recall.content) (Awaits g.M.Recall.content)
