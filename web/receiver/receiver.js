@@ -9,9 +9,8 @@ export const MAX_ENTRY = 4163; // NX_LIVE_MAX_ENTRY
 const MAX_STATE = 12288;
 const MAX_ELEMENTS = 4096; // of one call; more are given in pieces
 
-// What takes sendings together needs more: of three channels, and of each family.
-export const COMBINING_ROOM = 65536;
-export const FAMILY = 8240;
+export const COMBINING_CHANNEL = 19864; // NX_LIVE_COMBINING_CHANNEL, where sendings are taken together
+export const FAMILY = 8240;             // NX_LIVE_FAMILY
 
 export const MAX_MOMENT = 32503679999; // the end of the year 2999
 
@@ -98,7 +97,7 @@ export class Receiver {
         this.#calls = instance.exports;
         this.#memory = instance.exports.memory;
         const lent = families > 0 ? layOutFamilies(this.#memory, families) : null;
-        this.#at = layOut(this.#memory, lent === null ? ROOM : COMBINING_ROOM);
+        this.#at = layOut(this.#memory, lent === null ? ROOM : CHANNELS * COMBINING_CHANNEL);
         const [handle, room] = [BigInt(this.#at.handle), BigInt(this.#at.room)];
         if (lent === null) {
             this.#calls.nx_live_lend_3(handle, room);

@@ -15,7 +15,7 @@ import { choicesOf, USUAL_TUNING } from '../keep/choices.js';
 import { StoreFault } from '../keep/store.js';
 import { AirRun, LineSplitter, readLine } from '../receiver/air.js';
 import { entryAt, isGood, jsonOf, momentOf, readLog } from '../receiver/entries.js';
-import { MAX_ENTRY, Receiver, ReceiverFault, ROOM, Status } from '../receiver/receiver.js';
+import { COMBINING_CHANNEL, FAMILY, MAX_ENTRY, Receiver, ReceiverFault, ROOM, Status } from '../receiver/receiver.js';
 import { EMPTY_STATE, readState, refusedIn, stateAt, stateRefusing, stateWith, writeState } from '../receiver/state.js';
 import { joined, keptOver as over, NOW, printed, storeOf } from './over.mjs';
 import { flacFile, M4A, m4aTimes, OGGS, oggTimes } from './packed.mjs';
@@ -130,6 +130,8 @@ function triesHeader() {
     const header = readFileSync(new URL('../../crates/nx_live/navtex-live.h', import.meta.url), 'utf8');
     assert.match(header, new RegExp(`#define NX_LIVE_KEPT ${ROOM}$`, 'm'));
     assert.match(header, new RegExp(`#define NX_LIVE_MAX_ENTRY ${MAX_ENTRY}$`, 'm'));
+    assert.match(header, new RegExp(`#define NX_LIVE_COMBINING_CHANNEL ${COMBINING_CHANNEL}$`, 'm'));
+    assert.match(header, new RegExp(`#define NX_LIVE_FAMILY ${FAMILY}$`, 'm'));
     for (const [name, number] of Object.entries(Status)) {
         assert.match(header, new RegExp(`\\bNX_LIVE_${name} = ${number}\\b`));
     }
