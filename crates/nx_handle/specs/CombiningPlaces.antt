@@ -1,12 +1,12 @@
 -- A place in which several sendings of a message are taken together, with room for their families
 -- (this profile).
-use Rattle.std.specs.Prelude.{◌≡◌, ℕ, ◌<◌, Bool, true, false, List, [], ◌∷◌, ◌++◌, length}
+use Rattle.std.specs.Prelude.{◌≡◌, ℕ, Bool, true, false, List, [], ◌∷◌, ◌++◌, length}
 use Rattle.nx_copies.specs.Events.{Event, Start}
 use Rattle.nx_copies.specs.copies.FoundCopies.{TaggedCopy}
 use Rattle.nx_combine.specs.CombinedPrinting.{HasPrintedLastHolding, combined_holding}
 use Rattle.nx_combine.specs.CombinedReceiver.{LeavesHolding, StandsAfterAllHolding, receiver_in}
 use Rattle.nx_combine.specs.CombinedReceiver.{text_over}
-use Rattle.nx_combine.specs.FamilyPlaces.{BelongsTo, LentFamily, held_in}
+use Rattle.nx_combine.specs.FamilyPlaces.{LentFamily, held_in}
 use Rattle.nx_handle.specs.PlaceKinds.{PlaceKind}
 use Rattle.nx_handle.specs.PlainPlaces.{content, no_start}
 use Rattle.nx_handle.specs.declared.combining_place.CombiningState.{CombiningState}
@@ -54,12 +54,6 @@ abbrev pub combining_text : CombiningState → List ℕ
 combining_text Closed = []
 combining_text (Hears receiver) = text_over receiver
 combining_text Ended = []
-
--- the room has a place, and is that of the receiver which hears
-abbrev pub FitsRoom : List LentFamily → CombiningState → Type 0
-FitsRoom lent Closed = 0 < length lent
-FitsRoom lent (Hears receiver) = (0 < length lent) × BelongsTo receiver.store lent
-FitsRoom lent Ended = 0 < length lent
 
 -- the last copy of this log is put together from so many sendings
 abbrev pub CombinesSendings : ℕ → Start → List Event → List TaggedCopy → ℕ → Type 0

@@ -40,7 +40,8 @@ pub enum CombiningState {
 impl<F: FamilyRoom> Model for CombiningPlace<F> {
     ghost use Rattle.std.specs.Coded.{codes};
     ghost use Rattle.nx_memory.specs.private.RefusedCode.{refused_code};
-    ghost use Rattle.nx_handle.specs.CombiningPlaces.{CombiningPlaceView, FitsRoom};
+    ghost use Rattle.nx_handle.specs.CombiningPlaces.{CombiningPlaceView};
+    ghost use Rattle.nx_handle.specs.private.CombiningPlaces.{FitsRoom};
 
     ghost Value = { CombiningPlaceView F };
 
@@ -92,7 +93,18 @@ impl<F: FamilyRoom> KeptPlace for CombiningPlace<F> {
         self.state = CombiningState::Closed;
     }
 
-    // A call, and the receiver is built in its place, as in a plain place.
+    // A call, as in a plain place.
+    #[inline(never)]
+    fn begin_new(&mut self) {
+        self.state = CombiningState::Hears(LentReceiver::beginning(
+            FamilyRing::new(),
+            RenewingRecall::new(),
+            0,
+            Selection::all(),
+        ));
+    }
+
+    // A call as well.
     #[inline(never)]
     fn begin(&mut self, memory: &mut PlainRecall, moment: u64, selection: Selection) {
         let entries = renewing(memory);
@@ -146,10 +158,10 @@ impl<F: FamilyRoom> KeptPlace for CombiningPlace<F> {
     // Built in the place of its caller, as of a plain place.
     #[inline(always)]
     fn saved(&self) -> Saved {
-        match &self.state {
-            CombiningState::Hears(receiver) => receiver.saved(),
-            _ => Saved::new(),
-        }
+        let CombiningState::Hears(receiver) = &self.state else {
+            unreachable!()
+        };
+        receiver.saved()
     }
 
     fn sendings(&self) -> u64 {

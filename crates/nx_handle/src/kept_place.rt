@@ -1,10 +1,10 @@
 //! The place of a channel of a receiver, which it has between two calls, of whatever kind.
 
-ghost use Rattle.std.specs.Prelude.{◌≡◌, ◌↔◌, ℕ, ◌+◌, ◌<◌, ◌≤◌, List, ◌++◌, length, take, drop, IfErr, IfSome, IsErr, IsNone, IsSome, IsTrue, OnErr, OnOk, true, false};
+ghost use Rattle.std.specs.Prelude.{◌≡◌, ◌↔◌, ℕ, ◌+◌, ◌<◌, ◌≤◌, List, [], ◌++◌, length, take, drop, IfErr, IfSome, IsErr, IsNone, IsSome, IsTrue, OnErr, OnOk, true, false};
 ghost use Rattle.nx_envelope.specs.Moment.{last_moment};
 ghost use Rattle.nx_memory.specs.Memory.{newest_moment};
 ghost use Rattle.nx_copies.specs.Events as events;
-ghost use Rattle.nx_copies.specs.Events.{Event, Start, at_moment, elements};
+ghost use Rattle.nx_copies.specs.Events.{Event, Start, at_moment, elements, none_refused};
 ghost use Rattle.nx_copies.specs.copies.FoundCopies.{TaggedCopy};
 ghost use Rattle.nx_receiver.specs.ChannelReceiver.{HandsOutNoneBeforeBy};
 ghost use Rattle.nx_receiver.specs.Commands.{refuses_vital, said};
@@ -38,6 +38,11 @@ pub trait KeptPlace {
     /// Closes the receiver in it, which prints nothing; its room stays.
     fn shut(&mut self)
         ensures { self.new ≡ kind.shut self.old };
+
+    /// Gives the channel a receiver that starts with nothing at moment 0, and has heard nothing.
+    /// Everything is selected.
+    fn begin_new(&mut self)
+        ensures { HasBegun kind self.old self.new (start_with [] 0 none_refused) };
 
     /// Gives the channel a receiver that starts at this moment with the entries of this memory,
     /// and with this selection, and has heard nothing. The memory is left without any, or as it
@@ -110,6 +115,7 @@ pub trait KeptPlace {
 
     /// What a channel leaves that hears, and is saved of it.
     fn saved(&self) -> Saved
+        requires { kind.is_hearing self.now ≡ true }
         ensures { (held : ℕ) (start : Start) (history : List Event) (log : List TaggedCopy)
             → kind.stands held start self.now history log → kind.leaves held start history result };
 

@@ -2,7 +2,7 @@
 
 ghost use Rattle.std.specs.Prelude.{◌≡◌, ◌<◌, ◌≤◌, [], length, IfErr, OnOk, true};
 ghost use Rattle.nx_copies.specs.Events.{none_refused};
-ghost use Rattle.nx_handle.specs.PlaceKinds.{HasBegun, start_with};
+ghost use Rattle.nx_handle.specs.PlaceKinds.{start_with};
 ghost use Rattle.nx_handle.specs.private.Moments.{MomentsTaken, RefusesNext};
 ghost use Rattle.nx_handle.specs.Opening.{AnswersMoment, AnswersOpening};
 ghost use Rattle.nx_handle.specs.private.Opening.{HaveBegun, ShutSame, moment_told};
@@ -11,7 +11,6 @@ ghost use Rattle.nx_handle.specs.Places.{KeepsRoom, all_hear};
 use crate::kept_place::KeptPlace;
 use crate::places::{all_hear, are_closed, close_all};
 use crate::status::Status;
-use nx_memory::{PlainRecall, Selection};
 use nx_receiver::MomentFault;
 
 /// Opens a receiver at a moment, in whole seconds since 1970-01-01 00:00:00 UTC: it has heard
@@ -44,18 +43,8 @@ fn begin_new<P: KeptPlace>(places: &mut [P])
     ensures shut { ShutSame P.kind places.old places.new }
 {
     for at in 0..places.len() {
-        begin_new_at(&mut places[at]);
+        places[at].begin_new();
     }
-}
-
-/// Gives a channel a receiver that starts with nothing at moment 0, and has heard nothing.
-// A call, so that its stack is free again before the next channel.
-#[inline(never)]
-fn begin_new_at<P: KeptPlace>(place: &mut P)
-    ensures { HasBegun P.kind place.old place.new (start_with [] 0 none_refused) }
-{
-    let mut memory = PlainRecall::new();
-    place.begin(&mut memory, 0, Selection::all());
 }
 
 /// Sets the moment from here on, of all channels.

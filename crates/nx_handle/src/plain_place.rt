@@ -36,9 +36,18 @@ impl KeptPlace for PlainPlace {
         *self = PlainPlace::Closed;
     }
 
-    // A call, so that its stack is free again before the next channel. The memory comes by
-    // reference, since a value that is given takes a second place; the receiver is built in its
+    // A call, so that its stack is free again before the next channel. The receiver is built in its
     // place, as each move of one would take as much of the stack.
+    #[inline(never)]
+    fn begin_new(&mut self) {
+        let Ok(receiver) = Receiver::starting(PlainRecall::new(), 0, Selection::all()) else {
+            unreachable!()
+        };
+        *self = PlainPlace::Hears(receiver);
+    }
+
+    // A call as well. The memory comes by reference, since a value that is given takes a second
+    // place.
     #[inline(never)]
     fn begin(&mut self, memory: &mut PlainRecall, moment: u64, selection: Selection) {
         let entries = mem::replace(memory, PlainRecall::new());
@@ -90,10 +99,10 @@ impl KeptPlace for PlainPlace {
     // Built in the place of its caller.
     #[inline(always)]
     fn saved(&self) -> Saved {
-        match self {
-            PlainPlace::Hears(receiver) => receiver.saved(),
-            _ => Saved::new(),
-        }
+        let PlainPlace::Hears(receiver) = self else {
+            unreachable!()
+        };
+        receiver.saved()
     }
 
     fn sendings(&self) -> u64 {

@@ -1,6 +1,6 @@
 //! Saving a receiver, and opening one from what is saved.
 
-ghost use Rattle.std.specs.Prelude.{◌≡◌, ◌<◌, ◌≤◌, ◌↔◌, ◌∷◌, ◌++◌, ℕ, [], length, IfErr, IfOk, IsTrue, List, None, OnOk, Some};
+ghost use Rattle.std.specs.Prelude.{◌≡◌, ◌<◌, ◌≤◌, ◌↔◌, ◌∷◌, ◌++◌, ℕ, [], length, IfErr, IfOk, IsTrue, List, None, OnOk, Some, true};
 ghost use Rattle.nx_envelope.specs.Moment.{last_moment};
 ghost use Rattle.nx_fec.specs.air_files.Channels.{channel_number};
 ghost use Rattle.nx_fec.specs.declared.air_files.channel.Channel.{Channel as TheChannel};
@@ -14,7 +14,7 @@ ghost use Rattle.nx_memory.specs.StateText.{IsStateText};
 ghost use Rattle.nx_receiver.specs.air_file_runs.State.{BeginsWith, state_bytes};
 ghost use Rattle.nx_handle.specs.Life.{HasHeard};
 ghost use Rattle.nx_handle.specs.PlaceKinds.{HasBegun, start_with};
-ghost use Rattle.nx_handle.specs.Places.{HaveRoom, place_on};
+ghost use Rattle.nx_handle.specs.Places.{HaveRoom, all_hear, place_on};
 ghost use Rattle.nx_handle.specs.Saving.{AnswersOpeningFrom, AnswersSaving, HasNoMore, HasNothing, RefusesLetter, RefusesNone, RefusesState, RefusesText};
 ghost use Rattle.nx_handle.specs.private.Opening.{ShutSame};
 ghost use Rattle.nx_handle.specs.private.Saving.{IsFirstLine, RefusesEnd, StandsNext};
@@ -52,6 +52,7 @@ pub fn save<P: KeptPlace>(places: &[P], state: &mut [u8], written: &mut usize) -
 // Built in the place of its caller.
 #[inline(always)]
 fn left_by<P: KeptPlace>(places: &[P]) -> SavedSet
+    requires { all_hear P.kind places.now ≡ true }
     ensures leaves { (channel : TheChannel) (place : P)
         → place_on places.now channel ≡ Some place
         → (held : ℕ) (start : Start) (history : List Event) (log : List TaggedCopy)
@@ -71,6 +72,7 @@ fn left_by<P: KeptPlace>(places: &[P]) -> SavedSet
 // Built in the place of its caller too.
 #[inline(always)]
 fn left_on<P: KeptPlace>(places: &[P], channel: Channel) -> Saved
+    requires { all_hear P.kind places.now ≡ true }
     ensures leaves { (place : P) → place_on places.now channel ≡ Some place
         → (held : ℕ) (start : Start) (history : List Event) (log : List TaggedCopy)
         → P.kind.stands held start place history log → P.kind.leaves held start history result }

@@ -11,12 +11,12 @@ loop-at-preserved g c =
     let kind = g.P.KeptPlace.kind in
     let places = c.loop-at.places in
     let at = c.loop-at.at in
-    let place = c.begin_new_at.new.place in
+    let place = c.begin_new.new.self in
     let inv = c.loop-at.invariant in
     let has : at < length places =
     omega (arith, c.loop-at-test.true, long-kept kind c.args.places.now places inv.same) in
     let was = get_or places at c.index-places-at.result in
-    let b = c.begin_new_at.ensures in record {
+    let b = c.begin_new.ensures in record {
       same = set-map kind.shut places at place was
           (slice_get-get_or places at c.index-places-at.result has) b.room ∙ inv.same;
       begun = begin-more kind places at place (start_with [] 0 none_refused) has
