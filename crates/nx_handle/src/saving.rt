@@ -36,8 +36,6 @@ use nx_memory::{MAX_STATE_LINE, PlainRecall, Saved, SavedSet, Selection, StateRe
 /// `Closed` where the receiver is closed, or its end has begun; then nothing is copied. Else
 /// `NoRoom` where there is no room for all of the text, whose first bytes stand in the room then;
 /// else `Done`. `written` is the length of the whole text. The receiver stays as it was.
-// A call, so that a caller of both kinds has no frame for what each of them leaves.
-#[inline(never)]
 pub fn save<P: KeptPlace>(places: &[P], state: &mut [u8], written: &mut usize) -> u32
     ensures { AnswersSaving P.kind places.now places.now
         (room state.old state.new written.new) result }
