@@ -66,14 +66,15 @@ export function stateForgotten(text) {
     return writeState(readState(text).map((channel) => ({ ...channel, remembered: [] })));
 }
 
-/** In order of time, two of one identity at least 66 hours apart, the last 200 of them. */
+/** In order of time, the last 200 of them. Of two of one identity less than 66 hours apart the later one counts,
+ *  as a watch reads its log. */
 function joined(remembered) {
-    const newest = new Map();
     const inOrder = [...remembered].sort((one, other) => one.moment - other.moment);
-    const apart = inOrder.filter(({ identity, moment }) => {
-        const isNew = !newest.has(identity) || newest.get(identity) + MEMORY <= moment;
-        if (isNew) newest.set(identity, moment);
-        return isNew;
+    const next = new Map(); // the moment of the next one of an identity
+    const last = inOrder.reverse().filter(({ identity, moment }) => {
+        const isLast = !next.has(identity) || next.get(identity) - moment >= MEMORY;
+        next.set(identity, moment);
+        return isLast;
     });
-    return apart.slice(-MOST);
+    return last.slice(0, MOST).reverse();
 }

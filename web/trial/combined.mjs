@@ -248,15 +248,19 @@ async function triesChance() {
     assert.ok(better > FILES / 10, `only ${better} entries are put together`);
 }
 
-/** A moment that goes back has no effect where a message isn't whole; where all are, it has one. */
+/** A moment that goes back has no effect where a message has a hole that may be filled. Where each is whole, or
+ *  where none is taken together, the time of what is remembered is in force. */
 async function triesBack() {
-    const page = await keptOver();
-    await printed(page, airOf(M1, lacking(WHOLE, 174)));
-    const run = page.kept.begin(M0);
-    for (const line of airOf(M0, lacking(WHOLE, 176)).split('\n').slice(0, -1)) page.kept.take(line);
-    await page.kept.endOfSound(M2);
-    assert.equal(run.withoutEffect, 1);
-    assert.equal(page.told.added.at(-1).log, `[EA01 2025-01-01 04:40:00 full 0/${TEXT.length}]\n${TEXT}\n`);
+    const sounds = [airOf(M1, [174, 176].reduce(lacking, WHOLE)), airOf(M0, lacking(WHOLE, 178))];
+    for (const [families, withoutEffect, time] of [[FAMILIES, 1, '04:40:00 full 0'], [0, 0, '00:40:00 full 1']]) {
+        const page = await over(module, storeOf(), families);
+        await printed(page, sounds[0], M1);
+        const run = page.kept.begin(M0);
+        for (const line of sounds[1].split('\n').slice(0, -1)) page.kept.take(line);
+        await page.kept.endOfSound(M2);
+        assert.equal(run.withoutEffect, withoutEffect);
+        assert.ok(page.told.added.at(-1).log.startsWith(`[EA01 2025-01-01 ${time}/`), page.told.added.at(-1).log);
+    }
 }
 
 /** How often memory is taken while something is done. */

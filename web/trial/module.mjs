@@ -121,6 +121,11 @@ function triesStates() {
     }
     const refusing = 'STATE 2\nC0\nRS B\nRJ C\nEA01 1735929600\nC1\nC2\nEND\n';
     assert.equal(stateRefusing(refusing, refusedIn(EMPTY_STATE)), refusing.replace('RS B\nRJ C\n', ''));
+    const [bad, good] = readLog(example('buoy.combined')).entries;
+    for (const [state, entries] of [[EMPTY_STATE, [bad, good]], [stateWith(EMPTY_STATE, [good]), [bad]]]) {
+        assert.deepEqual(readState(stateWith(state, entries))[0].remembered, [{ identity: 'EA01', moment: good.moment }],
+            'the later one counts');
+    }
     const ahead = 'STATE 2\nC0\nEA01 1735929600\nEA02 1735929601\nC1\nC2\nEND\n';
     assert.equal(stateAt(ahead, 1735692001), ahead.replace('EA02 1735929601\n', ''));
 }
