@@ -6,7 +6,6 @@ use Rattle.std.specs.Io.KnownBytes.{Consumes}
 use Rattle.nx_fec.specs.air_files.AirFile.{IsLine, Line}
 use Rattle.nx_fec.specs.air_files.Scanner.{elements_kept, kind_of, line_with}
 use Rattle.nx_fec.specs.declared.air_files.lines.LineKind.{LineKind}
-use Rattle.nx_fec.specs.declared.air_files.lines.LineKind.TheVariants as kind
 use Rattle.nx_receiver.proofs.lemmas.listening.Lines.{of-kind}
 use Rattle.nx_watch.specs.private.LineRun.{TakerRelation}
 use Rattle.nx_watch.specs.private.AnyReading.{SaysLine}

@@ -14,7 +14,7 @@ use Rattle.nx_watch.specs.declared.lines.line_effects.StartMoments.{StartMoments
 use Rattle.nx_watch.specs.declared.lines.no_effect.NoEffect.{NoEffect}
 use Rattle.nx_watch.specs.private.Effects.{IsKept}
 use Rattle.nx_watch.specs.private.Running.{HasToldLines, HasToldSo, IsBeside, IsToldByEnd, TellsFirst}
-use Rattle.nx_watch.specs.private.Running.{ToldBefore, ToldBeside, beside}
+use Rattle.nx_watch.specs.private.Running.{ToldBefore, ToldBeside}
 
 -- ---- the first line without effect
 

@@ -1,6 +1,6 @@
 -- What is printed of several sendings taken together can stand in a log.
-use Rattle.std.proofs.Common.{◌≡◌, ℕ, Bool, true, false, List, [], ◌∷◌, ◌++◌, map, length, cond}
-use Rattle.std.proofs.Common.{None, Option, Some, ◌-◌, refl, sym}
+use Rattle.std.proofs.Common.{◌≡◌, ℕ, Bool, true, false, List, [], ◌∷◌, ◌++◌, length, cond}
+use Rattle.std.proofs.Common.{None, Option, Some, ◌-◌, refl}
 use Rattle.std.specs.Prelude.{slice_get, unwrap_or}
 use Rattle.std.specs.List.{All}
 use Rattle.std.specs.Option.{option_map_or}
@@ -8,10 +8,10 @@ use Rattle.std.proofs.lemmas.List.Elements.{All-append, All-cons, All-head, All-
 use Rattle.std.proofs.lemmas.List.Elements.{All-same, All-tail}
 use Rattle.nx_code.specs.Reading.{Reception, text}
 use Rattle.nx_code.specs.declared.shifts.Shift.TheVariants.{Figures}
-use Rattle.nx_envelope.specs.Copies.{Ending, ending_of}
+use Rattle.nx_envelope.specs.Copies.{ending_of}
 use Rattle.nx_memory.specs.declared.memories.entry.MemoryEntry.{MemoryEntry}
-use Rattle.nx_copies.specs.Events.{Event, Setting, Start, elements_among, first_setting}
-use Rattle.nx_copies.specs.copies.FoundCopies.{FoundCopy, TaggedCopy, tag}
+use Rattle.nx_copies.specs.Events.{Event, Setting, elements_among, first_setting}
+use Rattle.nx_copies.specs.copies.FoundCopies.{TaggedCopy, tag}
 use Rattle.nx_copies.specs.copies.Printing.{is_better}
 use Rattle.nx_combine.specs.CombinedPrinting.{combined, entry_made_combined, if_printed_combined}
 use Rattle.nx_combine.specs.CombinedPrinting.{is_printed_combined, printed_combined}

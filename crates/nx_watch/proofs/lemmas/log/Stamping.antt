@@ -4,7 +4,7 @@ use Rattle.std.proofs.Common.{nat_le, Option, Some, None, refl, sym, ap, ◌∙�
 use Rattle.std.proofs.Common.{length-append, option_to_list, cond}
 use Rattle.std.specs.List.{All, AllZip, flat_map}
 use Rattle.std.proofs.lemmas.List.{take_all, take_at, take-append-drop, take-append-le}
-use Rattle.std.proofs.lemmas.List.Elements.{All-cons, All-nil, All-weaker}
+use Rattle.std.proofs.lemmas.List.Elements.{All-cons, All-weaker}
 use Rattle.nx_envelope.specs.Moment.{last_moment}
 use Rattle.nx_fec.specs.air_files.AirFile.{Line, moment, elements, refuse_station, accept_station}
 use Rattle.nx_fec.specs.air_files.AirFile.{refuse_subject, accept_subject}

@@ -1,21 +1,20 @@
 -- What is remembered of a log.
-use Rattle.std.proofs.Common.{◌≡◌, ℕ, ◌+◌, ◌-◌, ◌≤◌, ◌<◌, suc, Bool, true, false, not, cond, List}
-use Rattle.std.proofs.Common.{[], ◌∷◌, ◌++◌, length, drop, get_or, refl, sym, ap, ◌∙◌, subst}
-use Rattle.std.proofs.Common.{append_assoc, arith, nat_le, nat_lt, ◌&&◌}
+use Rattle.std.proofs.Common.{◌≡◌, ℕ, ◌≤◌, ◌<◌, true, false, cond, List}
+use Rattle.std.proofs.Common.{[], ◌∷◌, ◌++◌, length, refl, sym, subst}
+use Rattle.std.proofs.Common.{arith, nat_le}
 use Rattle.std.specs.Prelude.{filter}
-use Rattle.std.specs.List.{All, list_any}
-use Rattle.std.proofs.lemmas.Bool.{and_parts, leb-true, ltb-false, not-true, or_parts}
-use Rattle.std.proofs.lemmas.List.{drop_more}
-use Rattle.std.proofs.lemmas.List.Elements.{All-append, All-cons, All-filter, All-head, All-nil}
+use Rattle.std.specs.List.{All}
+use Rattle.std.proofs.lemmas.Bool.{and_parts, leb-true}
+use Rattle.std.proofs.lemmas.List.Elements.{All-cons, All-filter, All-head, All-nil}
 use Rattle.std.proofs.lemmas.List.Elements.{All-tail}
 use Rattle.std.proofs.lemmas.List.Sums.{count_by-le-length, length-filter}
 use Rattle.nx_envelope.specs.Moment.{last_moment}
-use Rattle.nx_memory.specs.Content.{AreInTurn, IsLater, NeverFall}
+use Rattle.nx_memory.specs.Content.{NeverFall}
 use Rattle.nx_memory.specs.Memory.{newest_moment}
 use Rattle.nx_memory.specs.Saved.{AreSavedEntries}
 use Rattle.nx_memory.specs.declared.memories.entry.MemoryEntry.{MemoryEntry}
 use Rattle.nx_memory.proofs.lemmas.Content.{newest_behind}
-use Rattle.nx_memory.specs.Content.{is_last_known, passing, renews}
+use Rattle.nx_memory.specs.Content.{is_last_known, passing}
 use Rattle.nx_memory.proofs.lemmas.Renewed.{All-passing, in_turn-last_known, length-passing}
 use Rattle.nx_watch.specs.Start.{is_in_order, is_near, remembered_at}
 

@@ -92,13 +92,3 @@ returns-in-Err-clause-watched g c = λ start old force well stood told.
           (ends-stamped kind disk g.W.Write.contents g.F.Write.contents old c.args.first before now
           c.read_lines.new.self.effects r.3 now_told failures c.in-Err.end r.0 stamps r.5),
     )
-
--- at the limit that there was
-room-limit : (End : Type 0) (given room limit : ℕ) → End ⊎ (given ≡ room) → room ≡ limit
-    → End ⊎ (given ≡ limit)
-room-limit End given room limit (inl end) is = inl end
-room-limit End given room limit (inr all) is = inr (all ∙ is)
-
-pub returns-in-Ok-clause-ended : goal.returns-in-Ok-clause-ended
-returns-in-Ok-clause-ended g c =
-    room-limit _ _ _ _ c.in-Ok.ensures.ended c.new.ensures.room

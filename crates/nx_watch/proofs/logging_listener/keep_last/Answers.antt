@@ -1,4 +1,4 @@
-use Rattle.std.proofs.Common.{◌++◌, ◌∷◌, ◌∙◌, [], ap, append-nil, append_assoc, arith, length, refl, subst, sym}
+use Rattle.std.proofs.Common.{◌++◌, ◌∷◌, ◌∙◌, [], ap, append-nil, append_assoc, refl, subst, sym}
 use Rattle.std.specs.List.{All, AllZip}
 use Rattle.std.proofs.lemmas.List.Elements.{All-head, All-tail}
 use Rattle.nx_copies.specs.copies.FoundCopies.{copy_of}
@@ -25,12 +25,6 @@ entries-init g c = record {
         (sym (append-nil texts)) kept,
   );
 }
-
-pub entry_bytes-requires : goal.entry_bytes-requires
-entry_bytes-requires g c =
-    All-head IsCopyInRange (marked c.in-Some.channel (copy_of c.in-Some.entry))
-    (last_copies c.take_next.new.self)
-    (subst (All IsCopyInRange) c.in-Some.ensures.next c.entries.invariant.range)
 
 pub entries-preserved : goal.entries-preserved
 entries-preserved g c =
@@ -60,9 +54,6 @@ entries-preserved g c =
                 (c.keep.ensures.kept start first (texts ++ r.1) (one, is) r.4),
           );
     }
-
-pub entries-smaller : goal.entries-smaller
-entries-smaller g c = omega (arith, ap length c.in-Some.ensures.next)
 
 pub returns-in_default-clause-kept : goal.returns-in_default-clause-kept
 returns-in_default-clause-kept g c = λ start first texts logged kept.

@@ -1,14 +1,8 @@
-use Rattle.std.proofs.Common.{◌++◌, [], arith, rules, subst}
-use Rattle.nx_watch.proofs.lemmas.log.Cutting.{heads-all, heads-more, tells-heads, tells-nothing}
+use Rattle.std.proofs.Common.{◌++◌, rules, subst}
+use Rattle.nx_watch.proofs.lemmas.log.Cutting.{heads-all, heads-more, tells-heads}
 use Rattle.nx_watch.specs.private.Cutting.{IsHeadAt}
 use Rattle.nx_watch.proofs.kept_log.cut.tell_heads.Goals as goal
 use Rattle.std.proofs.lemmas.List.{take_rest}
-
-pub loop-at-init : goal.loop-at-init
-loop-at-init g c = record {
-  inside = omega arith;
-  told = ([], λ more all. all, tells-nothing g.F.Write.contents c.args.notices.now);
-}
 
 pub loop-at-preserved : goal.loop-at-preserved
 loop-at-preserved g c =

@@ -1,5 +1,5 @@
 use Rattle.std.proofs.Common.{◌∙◌, [], append-nil, sym}
-use Rattle.nx_watch.proofs.lemmas.log.Remembering.{kept-in-range, kept-numbered, seen-none, seen-some}
+use Rattle.nx_watch.proofs.lemmas.log.Remembering.{kept-numbered, seen-none, seen-some}
 use Rattle.nx_watch.proofs.kept_log.log_memory.found_in.Goals as goal
 
 pub returns-in_err-view-clause-found : goal.returns-in_err-view-clause-found
@@ -21,9 +21,4 @@ returns-clause-found c = λ one logged.
 pub returns-clause-numbered : goal.returns-clause-numbered
 returns-clause-numbered c =
     kept-numbered _ c.in_ok-entry.entry
-    (c.in_ok-entry.ensures c.args.bytes.now c.in_ok-view.ensures.found)
-
-pub returns-clause-in_range : goal.returns-clause-in_range
-returns-clause-in_range c =
-    kept-in-range c.args.bytes.now c.in_ok-view.view c.in_ok-entry.entry c.in_ok-view.ensures.found
     (c.in_ok-entry.ensures c.args.bytes.now c.in_ok-view.ensures.found)

@@ -3,15 +3,10 @@ use Rattle.nx_watch.specs.Acting.{moments_behind}
 use Rattle.nx_watch.specs.private.LineRun.{force_behind}
 use Rattle.nx_watch.specs.private.Effects.{IsAnswer, acting_and_set}
 use Rattle.nx_watch.specs.private.LoggingListener.{TakesLines, logging_to}
-use Rattle.nx_watch.proofs.lemmas.lines.Acting.{acts-taken, idle-refused}
-use Rattle.nx_watch.proofs.lemmas.lines.AnyLines.{said-good, said-kind, said-line}
+use Rattle.nx_watch.proofs.lemmas.lines.Acting.{acts-taken}
+use Rattle.nx_watch.proofs.lemmas.lines.AnyLines.{said-kind, said-line}
 use Rattle.nx_watch.proofs.lemmas.lines.Run.{acting-one, answer-behind}
 use Rattle.nx_watch.proofs.line_run.LineRun.give_line.Goals as goal
-
-pub take-answer-requires-clause-line : goal.take-answer-requires-clause-line
-take-answer-requires-clause-line g c =
-    said-good c.args.self.now.lines.scanner.scanner.latest c.args.kind c.elements.result.now
-    c.requires.line c.elements.ensures
 
 pub returns-clause-taken : goal.returns-clause-taken
 returns-clause-taken g c = λ start first lines line force is kept stood.
@@ -36,7 +31,3 @@ returns-clause-taken g c = λ start first lines line force is kept stood.
           ∙ ap (λ l. acting_and_set first lines line ++ l)
           (acts-taken first (moments_behind first lines) line answer is_answer))) taken.1,
     )
-
-pub returns-clause-idle : goal.returns-clause-idle
-returns-clause-idle g c = λ idle.
-    idle-refused c.take-answer.result _ _ c.line.ensures.taken c.take-answer.ensures.refused idle

@@ -4,8 +4,8 @@ use Rattle.std.specs.List.{All}
 use Rattle.std.proofs.KnownBytes.{Consumes-kept, Consumes-trans}
 use Rattle.std.specs.Io.KnownBytes.{Consumes}
 use Rattle.nx_receiver.specs.Listener.{ListeningOver, starts_by}
-use Rattle.nx_watch.specs.Stamp.{AreTheReads, stamp}
-use Rattle.nx_watch.specs.Stamps.{HasStampedReads, bytes_given, counted_of, stamps_of}
+use Rattle.nx_watch.specs.Stamp.{stamp}
+use Rattle.nx_watch.specs.Stamps.{bytes_given, counted_of, stamps_of}
 use Rattle.nx_watch.specs.private.AnyReading.{GoesOn}
 use Rattle.nx_watch.specs.private.LoggingListener.{LoggingTo, TakesLines, logging_to}
 use Rattle.nx_watch.specs.private.Running.{EndsRun, IsBeside, IsRunning, TellsFirst, ToldBefore, ToldBeside, beside}
@@ -18,7 +18,7 @@ use Rattle.nx_watch.proofs.lemmas.lines.AnyLines.{looked-all, looked-length, loo
 use Rattle.nx_watch.proofs.lemmas.lines.AnyLines.{running-read}
 use Rattle.nx_watch.proofs.lemmas.lines.Run.{answers-told, running-told}
 use Rattle.nx_watch.proofs.lemmas.lines.Told.{told-beside}
-use Rattle.nx_watch.proofs.lemmas.log.Stamping.{gave-none, later-bytes, reads-on, says-too, stamp-now, stamped-now}
+use Rattle.nx_watch.proofs.lemmas.log.Stamping.{later-bytes, reads-on, says-too, stamp-now, stamped-now}
 use Rattle.nx_watch.proofs.line_run.LineRun.read_lines.Goals as goal
 use Rattle.nx_watch.proofs.line_run.LineRun.read_lines.Goals.{After-read}
 
@@ -471,80 +471,3 @@ returns-in-Err-clause-read g c = λ start first old force well h.
             (stamps_of was.reader) r.5.from_reads;
       },
     )
-
--- the stamps are the reads
-pub returns-in-End-clause-stamps : goal.returns-in-End-clause-stamps
-returns-in-End-clause-stamps g c =
-    let inv = c.loop-has_failed.invariant in
-    elim c.in-End.ensures.read [
-      | inl e ↦ subst (λ (r : StampedReader _ _ _ _). AreTheReads (stamps_of r) (bytes_given r))
-          (sym e.1) inv.stamps
-      | inr e ↦ reads-on (stamps_of c.loop-has_failed.reader) (stamps_of c.read.new.reader)
-          (bytes_given c.loop-has_failed.reader) 0 (bytes_given c.read.new.reader) _ _ _ e.0
-          (omega (arith, inv.given, e.1.given, c.requires.limit)) (omega arith) inv.stamps
-    ]
-
-pub returns-in-Failed-clause-stamps : goal.returns-in-Failed-clause-stamps
-returns-in-Failed-clause-stamps g c =
-    let inv = c.loop-has_failed.invariant in
-    let e = c.in-Failed.ensures.read in
-    reads-on (stamps_of c.loop-has_failed.reader) (stamps_of c.read.new.reader)
-    (bytes_given c.loop-has_failed.reader) 0 (bytes_given c.read.new.reader) _ _ _ e.0
-    (omega (arith, inv.given, e.1.given, c.requires.limit)) (omega arith) inv.stamps
-
--- of the bytes that were read
-pub returns-in-End-clause-consumed : goal.returns-in-End-clause-consumed
-returns-in-End-clause-consumed g c =
-    let inv = c.loop-has_failed.invariant in
-    let b = inv.consumed in
-    elim c.in-End.ensures.read [
-      | inl e ↦ subst (λ (r : StampedReader _ _ _ _). HasStampedReads g.R.Read.remaining
-          c.args.reader.now r) (sym e.1)
-          (b.0, b.1, subst (AreTheReads (stamps_of c.loop-has_failed.reader)) (sym b.2) inv.stamps)
-      | inr e ↦ (
-        b.0,
-        Consumes-kept _ _ _ b.0 b.1 e.1.keeps,
-        reads-on (stamps_of c.loop-has_failed.reader) (stamps_of c.read.new.reader)
-            (bytes_given c.loop-has_failed.reader) 0 (length b.0) _ _ _ e.0
-            (omega (arith, b.2)) (omega arith) inv.stamps,
-      )
-    ]
-
-pub returns-in-Failed-clause-consumed : goal.returns-in-Failed-clause-consumed
-returns-in-Failed-clause-consumed g c =
-    let inv = c.loop-has_failed.invariant in
-    let b = inv.consumed in
-    let e = c.in-Failed.ensures.read in (
-      b.0,
-      Consumes-kept _ _ _ b.0 b.1 e.1.keeps,
-      reads-on (stamps_of c.loop-has_failed.reader) (stamps_of c.read.new.reader)
-          (bytes_given c.loop-has_failed.reader) 0 (length b.0) _ _ _ e.0
-          (omega (arith, b.2)) (omega arith) inv.stamps,
-    )
-
-pub returns-in-Err-clause-consumed : goal.returns-in-Err-clause-consumed
-returns-in-Err-clause-consumed g c =
-    let inv = c.loop-has_failed.invariant in
-    let b = inv.consumed in
-    (b.0, b.1, subst (AreTheReads (stamps_of c.loop-has_failed.reader)) (sym b.2) inv.stamps)
-
--- the last one found the end, or failed
-pub returns-in-End-clause-ended : goal.returns-in-End-clause-ended
-returns-in-End-clause-ended g c =
-    let inv = c.loop-has_failed.invariant in
-    elim c.in-End.ensures.read [
-      | inl e ↦ inr (omega (
-        arith,
-        e.0,
-        inv.given,
-        c.take_next.ensures.unread,
-        ap (λ (r : StampedReader _ _ _ _). bytes_given r) e.1,
-      ))
-      | inr e ↦ inl (gave-none (stamps_of c.loop-has_failed.reader) (stamps_of c.read.new.reader)
-          (bytes_given c.loop-has_failed.reader) _ _ _ e.0)
-    ]
-
-pub returns-in-Failed-clause-failed : goal.returns-in-Failed-clause-failed
-returns-in-Failed-clause-failed g c = λ same.
-    gave-none (stamps_of c.loop-has_failed.reader) (stamps_of c.read.new.reader)
-    (bytes_given c.loop-has_failed.reader) _ _ _ c.in-Failed.ensures.read.0

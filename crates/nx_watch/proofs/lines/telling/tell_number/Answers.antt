@@ -1,6 +1,6 @@
-use Rattle.std.proofs.Common.{◌++◌, ◌≡◌, ◌∙◌, ap, append-nil, sym, subst, arith}
+use Rattle.std.proofs.Common.{◌++◌, ◌≡◌, sym, subst, arith}
 use Rattle.nx_watch.specs.LineRun.{HasTold}
-use Rattle.nx_watch.proofs.lemmas.lines.Telling.{number-many, number-none, number-one}
+use Rattle.nx_watch.proofs.lemmas.lines.Telling.{number-many, number-one}
 use Rattle.nx_watch.proofs.lines.telling.tell_number.Goals as goal
 
 pub returns-then-count-gt1 : goal.returns-then-count-gt1
@@ -15,10 +15,3 @@ returns-then-count-gt0 g c = λ old text h.
     subst (λ l. HasTold old (g.F.Write.contents c.tell-then-count-gt0.new.notices.inner)
     c.tell-then-count-gt0.new.notices.failures (text ++ l))
     (sym (number-one c.args.count one)) (c.tell-then-count-gt0.ensures old text h)
-
-pub returns-else-count-gt0 : goal.returns-else-count-gt0
-returns-else-count-gt0 g c = λ old text h.
-    subst (λ l. HasTold old (g.F.Write.contents c.args.notices.now.inner)
-    c.args.notices.now.failures l)
-    (sym (append-nil text) ∙ ap (λ l. text ++ l) (number-none c.args.count c.if-count-gt0.false))
-    h

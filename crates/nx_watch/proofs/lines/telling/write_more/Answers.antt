@@ -1,10 +1,6 @@
 use Rattle.std.proofs.Common.{arith}
-use Rattle.nx_watch.proofs.lemmas.lines.Telling.{told-out, told-stopped}
+use Rattle.nx_watch.proofs.lemmas.lines.Telling.{told-out}
 use Rattle.nx_watch.proofs.lines.telling.write_more.Goals as goal
-
-pub returns-then-failures-gt0-clause-written : goal.returns-then-failures-gt0-clause-written
-returns-then-failures-gt0-clause-written g c = λ old text h.
-    told-stopped old _ _ text _ (omega (arith, c.if-failures-gt0.true, c.failures.ensures)) h
 
 pub returns-clause-written : goal.returns-clause-written
 returns-clause-written g c = λ old text h.

@@ -2,13 +2,8 @@ use Rattle.std.proofs.Common.{◌++◌}
 use Rattle.nx_receiver.specs.air_file_runs.Listen.{given_by}
 use Rattle.nx_receiver.specs.Listener.{last_copies, starts_by}
 use Rattle.nx_watch.proofs.lemmas.log.Loggable.{end-logged}
-use Rattle.nx_watch.proofs.lemmas.log.LoggingListener.{back-logged, last-in-range, lines_are, zip-append}
+use Rattle.nx_watch.proofs.lemmas.log.LoggingListener.{back-logged, lines_are, zip-append}
 use Rattle.nx_watch.proofs.logging_listener.LoggingListener+D+Listener+C.close.Goals as goal
-
-pub keep_last-requires-clause-range : goal.keep_last-requires-clause-range
-keep_last-requires-clause-range g c =
-    last-in-range c.close.result c.close.ensures.moment_0 c.close.ensures.moment_1
-    c.close.ensures.moment_2
 
 pub returns-clause-closed : goal.returns-clause-closed
 returns-clause-closed g c = λ start lines h.

@@ -1,19 +1,7 @@
-use Rattle.std.proofs.Common.{◌++◌, ◌∷◌, [], cond, append-nil, subst}
+use Rattle.std.proofs.Common.{◌++◌, ◌∷◌, [], cond, subst}
 use Rattle.nx_watch.specs.private.Keeping.{HasKept}
 use Rattle.nx_watch.proofs.lemmas.log.Keeping.{given-more}
 use Rattle.nx_watch.proofs.kept_log.keeper.Keeper.keep.Goals as goal
-
-pub returns-then-put-clause-kept : goal.returns-then-put-clause-kept
-returns-then-put-clause-kept g c = λ start first texts is h.
-    let disk = g.D.DiskFile in
-    let kept = c.put.ensures.kept start texts h.0 is h.1 in
-    let same = subst (λ b. HasKept disk start c.put.new.self (texts ++ c.args.entry.now ∷ [])
-    (h.0 ++ cond b [] c.args.entry.now)) c.if-put.true kept in (
-      h.0,
-      subst (HasKept disk start c.put.new.self (texts ++ c.args.entry.now ∷ []))
-          (append-nil h.0) same,
-      h.2,
-    )
 
 pub returns-clause-kept : goal.returns-clause-kept
 returns-clause-kept g c = λ start first texts is h.

@@ -5,14 +5,9 @@ use Rattle.nx_fec.specs.air_files.AirFile.{moment}
 use Rattle.nx_receiver.specs.Moments.{Refuses}
 use Rattle.nx_watch.specs.Acting.{in_force, is_far_back}
 use Rattle.nx_watch.specs.private.Effects.{KeepsMoments}
-use Rattle.nx_watch.proofs.lemmas.lines.Acting.{back-idle, far-same, past-idle, past-keeps, said-in}
+use Rattle.nx_watch.proofs.lemmas.lines.Acting.{back-idle, far-same, said-in}
 use Rattle.nx_watch.proofs.lines.line_effects.LineEffects.effect_of_fault.Goals as goal
 use Rattle.nx_watch.proofs.lines.line_effects.LineEffects.effect_of_fault.Goals.{else-is_far_back-via-then-is_far_back+else-went_far_back, else-is_far_back-via-else-is_far_back}
-
-pub returns-in-Range-clause-kept : goal.returns-in-Range-clause-kept
-returns-in-Range-clause-kept c = λ first moments n refused k.
-    let why = subst (Refuses (in_force first.newest moments) n) c.in-Range.is refused in
-    (past-keeps first moments n c.args.self.now why.1 k, past-idle first moments n why.1)
 
 pub returns-then-went_far_back-clause-kept : goal.returns-then-went_far_back-clause-kept
 returns-then-went_far_back-clause-kept c = λ first moments n refused k.

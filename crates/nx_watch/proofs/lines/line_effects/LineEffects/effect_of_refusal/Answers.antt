@@ -1,8 +1,6 @@
-use Rattle.std.proofs.Common.{◌++◌, ◌∙◌, Some, Err, append-nil, not, ap, refl, subst, sym}
+use Rattle.std.proofs.Common.{◌++◌, ◌∙◌, Some, Err, append-nil, ap, subst, sym}
 use Rattle.nx_fec.specs.air_files.AirFile.{Line}
 use Rattle.nx_watch.specs.Acting.{in_force}
-use Rattle.nx_watch.specs.declared.lines.line_effects.Effect.TheVariants.{Nothing}
-use Rattle.nx_watch.specs.declared.lines.no_effect.NoEffect.TheVariants.{Vital}
 use Rattle.nx_watch.specs.private.Effects.{IsAnswer, IsEffect, KeepsMoments, said_behind, set_by}
 use Rattle.nx_watch.proofs.lines.line_effects.LineEffects.effect_of_refusal.Goals as goal
 
@@ -16,15 +14,3 @@ returns-in-Moment-clause-kept c = λ first moments line answer k.
     (sym same) (c.effect_of_fault.ensures.kept first moments refused.0 refused.2
     (subst (λ l. KeepsMoments first l c.args.self.now)
     (ap (λ l. moments ++ set_by first moments l) same ∙ append-nil moments) k))
-
-pub returns-in-Vital-clause-kept : goal.returns-in-Vital-clause-kept
-returns-in-Vital-clause-kept c = λ first moments line answer k.
-    let refused = subst (λ why. IsAnswer (in_force first.newest moments) line (Err why))
-    c.in-Vital.is answer in
-    let same = refused.2 in
-    subst (λ (l : Line). KeepsMoments first (moments ++ said_behind first moments (Some l))
-    c.args.self.now × IsEffect first moments (Some l) (Nothing Vital)) (sym same) (
-      subst (λ (l : Line). KeepsMoments first (moments ++ set_by first moments l) c.args.self.now)
-          same k,
-      (ap not refused.3, refl, λ bytes before. tt),
-    )
