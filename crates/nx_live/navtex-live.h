@@ -53,7 +53,7 @@ enum nx_live_status {
 #define NX_LIVE_CHANNEL 7464
 #define NX_LIVE_KEPT 22392
 #ifdef NX_LIVE_BY_WASM2C
-#define NX_LIVE_ROOM(channels) (41272 + (channels) * NX_LIVE_CHANNEL)
+#define NX_LIVE_ROOM(channels) (51672 + (channels) * NX_LIVE_CHANNEL)
 #else
 #define NX_LIVE_ROOM(channels) ((channels) * NX_LIVE_CHANNEL)
 #endif

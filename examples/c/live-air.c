@@ -2,15 +2,16 @@
  * by one:
  *
  *   live-air hear PIECE              writes the log; elements are given in pieces of so many
- *   live-air combine FAMILIES PIECE  the same, and several sendings of a message are taken together, with
- *                                    so many families of each channel
+ *   live-air combine FAMILIES PIECE  the same, and several sendings of a message are taken
+ *                                    together, with so many families of each channel
  *   live-air sendings FAMILIES       from how many sendings each entry of that log is put together
  *   live-air resume STATE NEW        the log in pieces of 7, from the state in the file STATE; the
  *                                    new one goes to the file NEW
  *   live-air entries                 reads a log entry by entry, and writes it again from what each
  *                                    is told to say
- *   live-air rooms                   tries receivers of one, two and three channels, with families and
- *                                    without, and what is answered of a channel that isn't there
+ *   live-air rooms                   tries receivers of one, two and three channels, with families
+ *                                    and without, and what is answered of a channel that isn't
+ *                                    there
  *   live-air speed PIECE TIMES       hears all elements so often, and says how many nanoseconds of
  *                                    the processor one took
  *
@@ -167,8 +168,8 @@ static int entries(void) {
     return 0;
 }
 
-/* A receiver of so many channels, with so many families of each: each channel that it has hears, and
- * each call on another one, or with a state of it, answers that there is none. */
+/* A receiver of so many channels, with so many families of each: each channel that it has hears,
+ * and each call on another one, or with a state of it, answers that there is none. */
 static void try_room(int channels, size_t families) {
     static const char more[] = "STATE 2\nC0\nC1\nC2\nRS A\nEND\n";
     static uint8_t state[NX_LIVE_MAX_STATE];

@@ -17,7 +17,7 @@
 #define NX_LIVE_CHANNELS 3
 #endif
 
-/* And so many families each of these has at most; with some, each receiver has the room of so many. */
+/* And so many families each of these has at most; each receiver then has the room of so many. */
 #ifndef NX_LIVE_FAMILIES
 #define NX_LIVE_FAMILIES 0
 #endif
@@ -93,8 +93,8 @@ uint32_t wasm_rt_grow_memory(wasm_rt_memory_t *memory, uint32_t pages) {
 
 void wasm_rt_free_memory(wasm_rt_memory_t *memory) { (void)memory; }
 
-/* Makes the instance in its room, for so many channels, with so many families of each: that of fewer
- * than NX_LIVE_CHANNELS and NX_LIVE_FAMILIES has the room of so many. */
+/* Makes the instance in its room, for so many channels, with so many families of each: that of
+ * fewer than NX_LIVE_CHANNELS and NX_LIVE_FAMILIES has the room of so many. */
 static struct place *made(struct nx_live *receiver, void *room, size_t channels, size_t families) {
     if (channels > NX_LIVE_CHANNELS || families > NX_LIVE_FAMILIES)
         wasm_rt_trap(WASM_RT_TRAP_OOB); /* the room is that of fewer */
@@ -120,7 +120,7 @@ void nx_live_lend_3(struct nx_live *receiver, void *room) {
     Z_navtex_liveZ_nx_live_lend_3(&made(receiver, room, 3, 0)->module, AT(handle), AT(room));
 }
 
-/* The families' room isn't asked: they lie behind the places, in the module's memory. It is all zero. */
+/* The families' room isn't asked: they lie behind the places in the module's memory, all zero. */
 #define FAMILIES_AT(channels) (AT(room) + (channels) * NX_LIVE_COMBINING_CHANNEL)
 
 void nx_live_lend_1_families(struct nx_live *receiver, void *room, void *families_room, size_t families) {
