@@ -1,11 +1,10 @@
 -- Single bytes, fixed texts and numbers of two digits: what bytes lack of one.
-use Rattle.std.proofs.Common.{◌≡◌, ◌≢◌, ℕ, ◌+◌, ◌-◌, ◌*◌, ◌/◌, ◌%◌, ◌<◌, ◌≤◌, List, [], ◌∷◌, ◌++◌, ap, drop, get_or, length, max, min, sym, ◌∙◌, refl, arith, append-nil, append_assoc, subst}
+use Rattle.std.proofs.Common.{◌≡◌, ℕ, ◌+◌, ◌-◌, ◌*◌, ◌/◌, ◌%◌, ◌<◌, ◌≤◌, List, [], ◌∷◌, ◌++◌, ap, get_or, length, max, min, sym, ◌∙◌, refl, arith, append-nil, append_assoc}
 use Rattle.std.proofs.lemmas.List.{append_cancel_left, nil_from_length}
 use Rattle.nx_envelope.specs.Identity.{two_digits}
 use Rattle.nx_log.specs.declared.entries.lack.Lack.{Lack}
 use Rattle.nx_log.specs.private.Stages.{BreakOff, CanEnd, IsByte, IsNumber, Lacks, Spells}
 use Rattle.nx_log.proofs.lemmas.beginnings.Joins.{lacks_at}
-use Rattle.nx_log.proofs.lemmas.beginnings.Lists.{shorter_first}
 
 module _ (least most : ℕ) where
   pub byte_to_come : (bytes : List ℕ) → least ≤ most → length bytes ≡ 0

@@ -1,5 +1,5 @@
 -- Numbers by their digits: what bytes lack of one.
-use Rattle.std.proofs.Common.{◌≡◌, ◌≢◌, ◌⊎◌, inl, inr, ℕ, ◌+◌, ◌*◌, ◌/◌, ◌%◌, ◌<◌, ◌-◌, ◌≤◌, List, [], ◌∷◌, ◌++◌, Option, None, Some, ap, drop, get_or, length, max, sym, ◌∙◌, refl, arith, append-nil, append_assoc, subst, lit<, lit≤}
+use Rattle.std.proofs.Common.{◌≡◌, ◌≢◌, ◌⊎◌, inl, inr, ℕ, ◌+◌, ◌*◌, ◌/◌, ◌%◌, ◌<◌, ◌≤◌, List, [], ◌∷◌, ◌++◌, Option, None, Some, ap, drop, get_or, length, max, sym, ◌∙◌, refl, arith, append-nil, append_assoc, subst, lit<}
 use Rattle.std.specs.Prelude.{IfSome, decimal}
 use Rattle.std.specs.Str.Parse.{AllDigits}
 use Rattle.std.proofs.lemmas.Bool.{cases_lt}

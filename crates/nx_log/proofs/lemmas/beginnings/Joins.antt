@@ -1,7 +1,7 @@
 -- What bytes lack of an entry, by what they lack of a piece of it.
-use Rattle.std.proofs.Common.{◌≡◌, ◌≢◌, inl, inr, ℕ, List, [], ◌∷◌, ◌++◌, ap, sym, ◌∙◌, refl, subst, append-nil, append_assoc}
+use Rattle.std.proofs.Common.{◌≡◌, ℕ, List, [], ◌∷◌, ◌++◌, ap, sym, ◌∙◌, refl, subst, append-nil, append_assoc}
 use Rattle.std.proofs.lemmas.List.{append_cancel_left, append_cancel_right}
-use Rattle.nx_log.specs.private.Stages.{BreakOff, CanEnd, Joined, Lacks, NeverBegin, Spells}
+use Rattle.nx_log.specs.private.Stages.{CanEnd, Joined, Lacks, NeverBegin, Spells}
 use Rattle.nx_log.specs.declared.entries.lack.Lack.{Lack}
 use Rattle.nx_log.specs.declared.entries.lack.Lack.TheVariants.{Unfinished, Broken}
 use Rattle.nx_log.proofs.lemmas.beginnings.Lists.{left_nil}

@@ -1,19 +1,14 @@
 -- An entry stage by stage: what bytes lack of one, by the piece with which they begin.
-use Rattle.std.proofs.Common.{◌≡◌, ◌⊎◌, inl, inr, ℕ, ◌+◌, ◌-◌, ◌<◌, ◌≤◌, true, List, [], ◌∷◌, ◌++◌, length, drop, ap, sym, ◌∙◌, refl, subst, arith, lit<, lit≤, append_assoc, cond, ◌*◌}
-use Rattle.std.specs.Prelude.{◌==◌, All, IsTrue, decimal, replicate}
-use Rattle.std.proofs.lemmas.List.{length-append, length-replicate}
-use Rattle.std.proofs.lemmas.List.Folds.{sum_by-replicate}
-use Rattle.std.proofs.lemmas.List.Sums.{sum_by-append}
-use Rattle.std.proofs.lemmas.List.Elements.{All-append, All-nil, All-replicate}
-use Rattle.nx_code.specs.Reading.{asterisk, characters, is_in_code}
-use Rattle.nx_envelope.specs.Copies.{errors_of}
+use Rattle.std.proofs.Common.{◌≡◌, inl, inr, ℕ, ◌≤◌, List, [], ◌∷◌, ◌++◌, length, drop, ap, sym, ◌∙◌, refl, subst, arith, lit<, lit≤, append_assoc}
+use Rattle.std.specs.Prelude.{IsTrue, decimal}
+use Rattle.std.proofs.lemmas.List.Elements.{All-nil}
+use Rattle.nx_code.specs.Reading.{characters}
 use Rattle.nx_code.specs.Reading.{newline}
 use Rattle.nx_envelope.specs.Identity.{identity_bytes}
 use Rattle.nx_envelope.specs.Moment.{IsShownAs, last_moment}
 use Rattle.nx_envelope.specs.declared.found.How.{How}
 use Rattle.nx_envelope.specs.declared.found.How.TheVariants.{Full}
 use Rattle.nx_envelope.specs.declared.identity.Identity.{Identity}
-use Rattle.nx_envelope.specs.declared.letter.Letter.{Letter}
 use Rattle.nx_fec.specs.declared.air_files.channel.Channel.{Channel}
 use Rattle.nx_fec.specs.declared.air_files.channel.Channel.TheVariants.{Zero}
 use Rattle.nx_copies.specs.copies.Log.{channel_mark, how_name, missing_newline}
@@ -25,7 +20,6 @@ use Rattle.nx_log.proofs.lemmas.beginnings.Texts.{text_goes_on}
 use Rattle.nx_log.proofs.lemmas.beginnings.Times.{some_time}
 use Rattle.nx_log.specs.declared.entries.head.LoggedHead.{LoggedHead}
 use Rattle.nx_log.specs.declared.entries.lack.Lack.{Lack}
-use Rattle.nx_log.specs.declared.entries.lack.Lack.TheVariants.{Unfinished, Broken}
 use Rattle.nx_log.specs.private.Heads.{BeginsWithHead, IsHead}
 use Rattle.nx_log.proofs.lemmas.beginnings.Joins.{join, lacks_behind, lacks_same, lacks_within, some_joined}
 use Rattle.nx_log.proofs.lemmas.reading.Heads.{characters_and, errors_and, how_and, mark_and, time_and_rest}

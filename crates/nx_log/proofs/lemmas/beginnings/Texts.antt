@@ -1,14 +1,14 @@
 -- A text of so many errors and characters: what bytes lack of one.
-use Rattle.std.proofs.Common.{◌≡◌, ◌≢◌, ℕ, suc, ◌+◌, ◌-◌, ◌*◌, ◌<◌, ◌≤◌, true, List, [], ◌∷◌, ◌++◌, ap, append-nil, append_assoc, arith, cond, rules, length, refl, subst, sym, take, ◌∙◌}
+use Rattle.std.proofs.Common.{◌≡◌, ℕ, suc, ◌+◌, ◌-◌, ◌*◌, ◌<◌, ◌≤◌, true, List, [], ◌∷◌, ◌++◌, ap, append-nil, append_assoc, arith, cond, length, refl, subst, sym, ◌∙◌}
 use Rattle.std.specs.Prelude.{◌==◌, All, IsTrue, replicate}
-use Rattle.std.proofs.lemmas.List.{length-append, length-replicate, take-append-le, take_all}
-use Rattle.std.proofs.lemmas.List.Elements.{All-append, All-nil, All-replicate}
+use Rattle.std.proofs.lemmas.List.{length-append, length-replicate}
+use Rattle.std.proofs.lemmas.List.Elements.{All-append, All-replicate}
 use Rattle.std.proofs.lemmas.List.Folds.{sum_by-replicate}
-use Rattle.std.proofs.lemmas.List.Sums.{count_by-le-length, sum_by-append}
+use Rattle.std.proofs.lemmas.List.Sums.{count_by-le-length}
 use Rattle.nx_code.specs.Reading.{asterisk, characters, is_in_code, newline}
 use Rattle.nx_envelope.specs.Copies.{errors_of}
 use Rattle.nx_log.specs.Logged.{is_text_byte}
-use Rattle.nx_log.specs.private.Stages.{BreakOff, CanEnd, Extends, IsTextOf, Spells}
+use Rattle.nx_log.specs.private.Stages.{BreakOff, CanEnd, IsTextOf, Spells}
 use Rattle.nx_log.proofs.lemmas.beginnings.Lists.{shorter_first}
 use Rattle.std.proofs.lemmas.List.{nil_from_length}
 use Rattle.nx_copies.proofs.lemmas.emissions.Found.{errors-append}

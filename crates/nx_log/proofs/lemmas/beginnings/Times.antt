@@ -13,7 +13,7 @@ use Rattle.nx_log.specs.declared.entries.lack.Lack.{Lack}
 use Rattle.nx_log.specs.private.Stages.{IsCivilTime, IsNumber, IsTime, Joined, Lacks, Spells, year_from}
 use Rattle.nx_log.specs.declared.entries.lack.Lack.TheVariants.{Unfinished, Broken}
 use Rattle.nx_log.proofs.lemmas.reading.Pieces.{same_text}
-use Rattle.nx_log.proofs.lemmas.beginnings.Joins.{join, lacks_at, lacks_behind, lacks_same, lacks_within, some_joined}
+use Rattle.nx_log.proofs.lemmas.beginnings.Joins.{join, lacks_at, lacks_behind, lacks_same, some_joined}
 use Rattle.nx_log.proofs.lemmas.beginnings.Lists.{joined}
 
 day_count-3000 : day_count (pos 3000) 1 1 ≡ 4_748_153

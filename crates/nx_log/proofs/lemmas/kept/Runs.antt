@@ -7,7 +7,7 @@ use Rattle.std.specs.Prelude.{◌==◌}
 use Rattle.nx_code.specs.Reading.{newline}
 use Rattle.nx_fec.specs.Transfers.{Contents, Devices, contents_of}
 use Rattle.nx_log.specs.KeptLog.{ArePlacedFrom, StopKept}
-use Rattle.nx_log.specs.KeptRun.{AnswersKeptRun, AreAllKept, BeginKept, KeptRanOut}
+use Rattle.nx_log.specs.KeptRun.{AnswersKeptRun, AreAllKept, KeptRanOut}
 use Rattle.nx_log.specs.LogReader.{most_lines}
 use Rattle.nx_log.specs.LogRun.{WrotePlacedPart, most_read}
 use Rattle.nx_log.specs.Places.{PlacedCopy}

@@ -1,24 +1,20 @@
 -- What lines print that are taken has a moment in range, and was selected.
-use Rattle.std.proofs.Common.{◌≡◌, ◌≤◌, ℕ, zero, suc, Bool, true, false, List, [], ◌∷◌, ◌++◌, get_or, refl, not}
-use Rattle.std.specs.Prelude.{⊤, ◌||◌, if◌then◌else◌}
+use Rattle.std.proofs.Common.{◌≡◌, ◌≤◌, ℕ, zero, suc, true, false, List, [], ◌∷◌, ◌++◌, get_or, refl, not}
+use Rattle.std.specs.Prelude.{◌||◌, if◌then◌else◌}
 use Rattle.std.specs.List.{All}
 use Rattle.std.proofs.lemmas.Bool.{and_parts}
 use Rattle.std.proofs.lemmas.List.Elements.{All-nil, All-cons, All-head, All-tail, All-append, All-same, All-weaker}
 use Rattle.nx_envelope.specs.Moment.{last_moment}
-use Rattle.nx_fec.specs.air_files.AirFile.{Line, moment, elements, refuse_station, accept_station}
-use Rattle.nx_fec.specs.air_files.AirFile.{refuse_subject, accept_subject}
-use Rattle.nx_fec.specs.air_files.Channels.{channel_of, same_channel}
+use Rattle.nx_fec.specs.air_files.AirFile.{Line}
 use Rattle.nx_fec.specs.declared.air_files.channel.Channel.{Channel}
 use Rattle.nx_memory.specs.declared.memories.entry.MemoryEntry.{MemoryEntry}
-use Rattle.nx_copies.specs.Events as fed
-use Rattle.nx_copies.specs.Events.{Event, Setting, Start, at_moment, command, element, elements_among, first_setting, setting_after, settings}
+use Rattle.nx_copies.specs.Events.{Event, Setting, at_moment, command, element, elements_among, first_setting, setting_after, settings}
 use Rattle.nx_copies.specs.copies.FoundCopies.{FoundCopy, TaggedCopy, tag, tagged_copies}
 use Rattle.nx_copies.specs.copies.InTurn.{HavePrinted, PrintAllToEnd}
-use Rattle.nx_receiver.specs.air_file_runs.Listen.{AreTaken, events_on, given_by, given_of}
+use Rattle.nx_receiver.specs.air_file_runs.Listen.{AreTaken, given_by}
 use Rattle.nx_copies.specs.copies.Log.{printed_of}
 use Rattle.nx_copies.specs.copies.Printing.{entry_made, if_printed, is_number_00, is_printed, is_remembered, printed_copies}
-use Rattle.nx_copies.specs.copies.Shares.{Given, MarkedCopy, Starts, copies_on, events_for, share, start_on}
-use Rattle.nx_receiver.specs.private.Taken.{AreTakenAfter, IsTakenAfter}
+use Rattle.nx_copies.specs.copies.Shares.{Given, MarkedCopy, Starts, copies_on, share, start_on}
 use Rattle.nx_copies.proofs.lemmas.channels.Shares.{to_end-on}
 use Rattle.nx_receiver.proofs.lemmas.listening.Moments.{IsInRange, lines-in_range}
 use Rattle.nx_receiver.proofs.lemmas.listening.Taken.{taken-each}

@@ -1,14 +1,14 @@
 -- Bytes that begin with an entry, that are the beginning of one, and that aren't.
-use Rattle.std.proofs.Common.{◌≡◌, ◌⊎◌, inl, inr, ℕ, ◌+◌, ◌≤◌, ◌<◌, List, [], ◌∷◌, ◌++◌, get_or, take, drop, length, ap, sym, ◌∙◌, refl, subst, arith, append_assoc, append-nil, length-append}
+use Rattle.std.proofs.Common.{◌≡◌, ◌⊎◌, inl, inr, ℕ, ◌+◌, ◌≤◌, ◌<◌, List, [], ◌∷◌, ◌++◌, take, drop, length, ap, sym, ◌∙◌, refl, subst, arith, append_assoc, append-nil, length-append}
 use Rattle.std.proofs.lemmas.Bool.{cases_lt}
-use Rattle.std.proofs.lemmas.List.{take-append-drop, take-append-le, take-take, take_more, length-take}
+use Rattle.std.proofs.lemmas.List.{take-append-drop, take-append-le, length-take}
 use Rattle.nx_copies.specs.copies.Shares.{MarkedCopy}
 use Rattle.nx_log.specs.Entries.{IsUnfinishedEntry, IsWholeEntry}
 use Rattle.nx_log.specs.Logged.{IsLoggedAs}
 use Rattle.nx_log.specs.Starts.{StartsAs}
 use Rattle.nx_log.specs.declared.entries.start.EntryStart.{EntryStart}
 use Rattle.nx_log.specs.declared.entries.start.EntryStart.TheVariants.{Whole, Unfinished, Broken}
-use Rattle.nx_log.proofs.lemmas.beginnings.Lists.{one_extends, some_elements}
+use Rattle.nx_log.proofs.lemmas.beginnings.Lists.{some_elements}
 use Rattle.nx_log.proofs.lemmas.beginnings.Stages.{nothing_lacks}
 use Rattle.nx_log.proofs.lemmas.beginnings.Wholes.{to_entry}
 use Rattle.nx_log.proofs.lemmas.reading.Gaps.{begins}

@@ -1,12 +1,12 @@
 -- An entry is told by its bytes, whatever stands behind them.
-use Rattle.std.proofs.Common.{◌≡◌, ℕ, ◌+◌, ◌/◌, ◌%◌, ◌<◌, ◌≤◌, true, List, [], ◌∷◌, ◌++◌, get_or, drop, length, ap, sym, ◌∙◌, refl, arith, append_assoc}
+use Rattle.std.proofs.Common.{◌≡◌, ℕ, ◌<◌, ◌≤◌, true, List, [], ◌∷◌, ◌++◌, get_or, drop, length, ap, sym, ◌∙◌, refl, arith, append_assoc}
 use Rattle.std.proofs.Common.{inl, inr}
 use Rattle.nx_envelope.specs.Copies.{errors_of}
 use Rattle.nx_code.specs.Reading.{newline}
 use Rattle.nx_fec.specs.declared.air_files.channel.Channel.{Channel}
 use Rattle.nx_copies.specs.copies.Log.{IsEntry, entry_head, channel_mark, how_name, is_of_lines, missing_newline}
 use Rattle.nx_copies.specs.copies.Shares.{MarkedCopy}
-use Rattle.std.proofs.Common.{eq-eqb, false, lit<, lit≤}
+use Rattle.std.proofs.Common.{false, lit<, lit≤}
 use Rattle.std.specs.Prelude.{if◌then◌else◌, codes, decimal}
 use Rattle.nx_envelope.specs.Identity.{identity_bytes}
 use Rattle.std.proofs.lemmas.Fmt.{length-decimal-le}
@@ -17,7 +17,6 @@ use Rattle.std.specs.Prelude.{◌==◌}
 use Rattle.std.proofs.lemmas.List.Sums.{count_by-le-length}
 use Rattle.nx_code.specs.Reading.{asterisk}
 use Rattle.nx_envelope.specs.declared.found.How.{How}
-use Rattle.std.proofs.lemmas.Bool.{and_from}
 use Rattle.std.proofs.lemmas.List.{append_cancel_left}
 use Rattle.nx_envelope.specs.declared.identity.Identity.{Identity}
 use Rattle.nx_envelope.proofs.lemmas.headers.Identities.{same_from_bytes}

@@ -1,10 +1,7 @@
 -- What a query asks, and which bytes a text has.
-use Rattle.std.proofs.Common.{◌≡◌, ℕ, ◌<◌, Bool, true, false, List, refl, arith, Some, None}
-use Rattle.std.specs.Prelude.{IsTrue, IsAscii, ◌==◌, ◌&&◌, ◌||◌, if◌then◌else◌}
-use Rattle.std.specs.List.{All}
+use Rattle.std.proofs.Common.{◌≡◌, ℕ, ◌<◌, Bool, true, false, refl, arith, Some, None}
+use Rattle.std.specs.Prelude.{IsTrue, ◌==◌, ◌&&◌, ◌||◌, if◌then◌else◌}
 use Rattle.std.proofs.lemmas.Bool.Decides.{Decides-eqb}
-use Rattle.std.proofs.lemmas.List.Elements.{All-weaker}
-use Rattle.std.proofs.lemmas.Str.Ascii.{IsAscii-from_all}
 use Rattle.nx_code.proofs.lemmas.Character.{in_code-low}
 use Rattle.nx_code.specs.Reading.{asterisk, is_in_code}
 use Rattle.nx_log.specs.Logged.{is_text_byte}

@@ -8,11 +8,6 @@ use Rattle.nx_log.proofs.lemmas.reading.Views.{is_view}
 use Rattle.nx_log.specs.private.Stages.{IsBehindText}
 use Rattle.nx_log.proofs.entries.entry.read_entry.Goals as goal
 
-pub returns-in_err-head-clause-lacks : goal.returns-in_err-head-clause-lacks
-returns-in_err-head-clause-lacks c =
-    let p = err_from_is_err_and c.from_residual.result c.from_residual.ensures.1 in
-    rw p.1 (rw p.2 c.in_err-head.ensures.lacks)
-
 pub returns-in_err-text-clause-lacks : goal.returns-in_err-text-clause-lacks
 returns-in_err-text-clause-lacks c =
     let p = err_from_is_err_and c.from_residual-in_err-text.result
@@ -33,9 +28,6 @@ returns-in_err-rest-clause-lacks c =
     (behind_text _ _ _ _ c.in_ok-text.text.now _ text.1 text.0
     (lacks_same _ (IsBehindText c.in_ok-text.text.now) _ _ (λ spelled is. is ∙ end)
     (λ spelled is. is ∙ sym end) c.in_err-rest.ensures.lacks))))
-
-pub text_at-requires : goal.text_at-requires
-text_at-requires c = c.in_ok-head.ensures.found.1.enough
 
 pub returns-clause-found : goal.returns-clause-found
 returns-clause-found c =

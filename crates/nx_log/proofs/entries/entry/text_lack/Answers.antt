@@ -2,7 +2,7 @@ use Rattle.std.proofs.Common.{◌≡◌, ◌-◌, [], ◌∷◌, arith, rules, s
 use Rattle.std.proofs.lemmas.Bool.{true≢false}
 use Rattle.std.proofs.lemmas.Grind.{common_steps}
 use Rattle.nx_envelope.specs.Copies.{errors_of}
-use Rattle.nx_log.proofs.lemmas.beginnings.Texts.{next_read, text_breaks, text_to_come, text_whole}
+use Rattle.nx_log.proofs.lemmas.beginnings.Texts.{next_read, text_breaks, text_to_come}
 use Rattle.nx_log.proofs.entries.entry.text_lack.Goals as goal
 
 pub returns-in_default : goal.returns-in_default
@@ -27,9 +27,3 @@ loop-left-preserved c =
     (c.loop-left.lacking - c.from-lacking.result) (c.loop-left.left - 1)
     (first_of (search rules, grind (arith, common_steps)))
     ok.0 (omega (arith, ok.1, star)) (omega (arith, some)) (omega (arith, ok.1, ok.2, star, some))
-
-pub unreachable-requires : goal.unreachable-requires
-unreachable-requires c =
-    let inv = c.loop-left.invariant in
-    c.requires.none inv.done c.loop-left.rest.now
-    (text_whole _ _ _ _ _ _ inv (omega (arith, c.loop-left-test.false))) inv.split

@@ -1,4 +1,4 @@
-use Rattle.std.proofs.Common.{◌≡◌, ◌+◌, ◌-◌, ◌*◌, ◌≤◌, ◌∷◌, ◌++◌, ap, arith, max, min, sym, ◌∙◌}
+use Rattle.std.proofs.Common.{◌≡◌, ◌+◌, ◌-◌, ◌*◌, ◌∷◌, ◌++◌, ap, arith, max, min, ◌∙◌}
 use Rattle.std.proofs.lemmas.Result.{err_from_is_err_and}
 use Rattle.nx_log.proofs.lemmas.beginnings.Bytes.{number_lacks_before, number_lacks_tens, number_lacks_units}
 use Rattle.nx_log.proofs.entries.pieces.number_at.Goals as goal

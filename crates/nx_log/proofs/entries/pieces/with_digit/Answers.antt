@@ -1,7 +1,6 @@
-use Rattle.std.proofs.Common.{◌≡◌, ◌+◌, ◌-◌, [], ◌∷◌, ◌++◌, ap, append_assoc, arith, length, rules, subst, sym, ◌∙◌}
+use Rattle.std.proofs.Common.{[], ◌∷◌, ◌++◌, ap, append_assoc, arith, length, rules, ◌∙◌}
 use Rattle.std.specs.Prelude.{decimal}
-use Rattle.std.proofs.lemmas.Bool.{true≢false}
-use Rattle.nx_log.specs.private.Stages.{BeginsSome, written}
+use Rattle.nx_log.specs.private.Stages.{written}
 use Rattle.nx_log.proofs.lemmas.beginnings.Counts.{is_digit, zero_front}
 use Rattle.nx_log.proofs.entries.pieces.with_digit.Goals as goal
 
@@ -19,25 +18,3 @@ returns-in_default-clause-none c = λ b.
     ∙ append_assoc (decimal 0) (c.args.byte ∷ []) b.begins.more in
     let z = zero_front b.number b.few (c.args.byte ∷ b.begins.more) e in
     omega (arith, ap length z.1)
-
-pub returns-then-can_become-clause-digits : goal.returns-then-can_become-clause-digits
-returns-then-can_become-clause-digits c =
-    let byte : c.args.byte ≡ 48 + c.from.result =
-    first_of (
-      omega (arith, c.from.ensures, c.if-not-is_ascii_digit.ensures.bound),
-      grind (arith, c.from.ensures),
-      search (rules, c.from.ensures),
-    ) in
-    ap (λ b. written c.args.number ++ b ∷ []) byte ∙ c.in-Some.ensures.digits
-
-pub returns-else-can_become-clause-none : goal.returns-else-can_become-clause-none
-returns-else-can_become-clause-none c = λ b.
-    let byte : c.args.byte ≡ 48 + c.from.result =
-    first_of (
-      omega (arith, c.from.ensures, c.if-not-is_ascii_digit.ensures.bound),
-      grind (arith, c.from.ensures),
-      search (rules, c.from.ensures),
-    ) in
-    let digits = ap (λ b. written c.args.number ++ b ∷ []) byte ∙ c.in-Some.ensures.digits in
-    true≢false (sym (c.can_become.ensures.begins.1 (subst (BeginsSome c.args.least) digits b))
-    ∙ c.if-can_become.false)

@@ -1,14 +1,8 @@
 use Rattle.std.proofs.Common.{◌≡◌, refl, rules, subst}
-use Rattle.nx_log.specs.View.{copy_said}
 use Rattle.nx_log.proofs.lemmas.beginnings.Wholes.{broken, unfinished}
 use Rattle.nx_log.specs.declared.entries.lack.Lack.TheVariants.{Unfinished}
 use Rattle.nx_log.specs.private.Stages.{FromName, Lacks}
 use Rattle.nx_log.proofs.entries.start.entry_start.Goals as goal
-
-pub returns-in-Ok : goal.returns-in-Ok
-returns-in-Ok c =
-    let found = c.in-Ok.ensures.found in
-    (found.within, (copy_said c.in-Ok.view.head c.in-Ok.view.text.now, found.entry))
 
 pub returns-in-Err-Unfinished : goal.returns-in-Err-Unfinished
 returns-in-Err-Unfinished c =

@@ -1,12 +1,11 @@
 use Rattle.std.proofs.Common.{◌≡◌, ◌≤◌, ◌∙◌, ◌++◌, inl, inr, length, length-append, length-drop}
-use Rattle.std.proofs.Common.{Err, ap, sym, refl, take, drop, subst, arith}
+use Rattle.std.proofs.Common.{ap, sym, take, drop, subst, arith}
 use Rattle.std.proofs.KnownBytes.{Consumes-kept, Consumes-trans}
 use Rattle.std.proofs.lemmas.List.{length-take-le, take-append-le}
 use Rattle.std.proofs.lemmas.Result.{err_from_is_err_and}
 use Rattle.std.specs.Io.KnownBytes.{Consumes}
 use Rattle.nx_fec.proofs.lemmas.devices.TransferLaws.{Ok-not_err, Writes-sound}
 use Rattle.nx_log.proofs.lemmas.kept.Runs.{part_all, unread_ends}
-use Rattle.nx_log.proofs.lemmas.runs.LogRuns.{fault-of}
 use Rattle.nx_log.proofs.kept_runs.KeptRun.read_log.Goals as goal
 
 pub returns-in_err-send-clause-read : goal.returns-in_err-send-clause-read
@@ -21,22 +20,6 @@ returns-in_err-send-clause-read g c = λ from old low h.
           run.entries _ run.at
           (c.in_err-send.ensures.given c.args.query.now c.args.form old run.entries run.given))),
     )
-
-pub returns-in_err-send-clause-writes : goal.returns-in_err-send-clause-writes
-returns-in_err-send-clause-writes g c =
-    let p = err_from_is_err_and c.from_residual.result c.from_residual.ensures.1 in
-    let counts = c.in_err-send.ensures.counts in
-    record {
-      failed = (
-        λ w. counts.failed.0 refl,
-        λ one. (
-          c.in_err-send.field-0.0.written,
-          p.1
-              ∙ ap Err p.2,
-        ),
-      );
-      once = counts.once;
-    }
 
 pub returns-in-End-clause-read : goal.returns-in-End-clause-read
 returns-in-End-clause-read g c = λ from old low h.
@@ -66,21 +49,6 @@ returns-in-Failed-clause-read g c = λ from old low h.
           c.unread.result run.at
           (c.unread.ensures.ended c.args.form old run.entries sent.0 sent.1),
     )
-
-pub returns-in-Failed-clause-read_failed : goal.returns-in-Failed-clause-read_failed
-returns-in-Failed-clause-read_failed g c = λ one. elim c.unread.ensures.unread [
-  | inl read ↦ inl (ap Err read)
-  | inr w ↦ inr (w.0, (w.1.0, ap Err w.1.1))
-]
-
-pub returns-in-Failed-clause-writes : goal.returns-in-Failed-clause-writes
-returns-in-Failed-clause-writes g c = record {
-  failed = (
-    λ w. c.unread.ensures.failed.0 (w.0, fault-of _ _ w.1),
-    λ one. let w = c.unread.ensures.failed.1 one in (w.0, ap Err w.1),
-  );
-  once = c.unread.ensures.once;
-}
 
 pub returns-in_err-take_piece-clause-read : goal.returns-in_err-take_piece-clause-read
 returns-in_err-take_piece-clause-read g c = λ from old low h.

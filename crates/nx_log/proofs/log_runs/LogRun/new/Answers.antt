@@ -18,6 +18,3 @@ returns-clause-running c = λ query form old told failures none. record {
   mode = refl;
   stands = stands-none c.args.damaged;
 }
-
-pub returns-clause-reading : goal.returns-clause-reading
-returns-clause-reading c = ([], [], [], c.new.ensures)

@@ -1,5 +1,5 @@
 use Rattle.std.proofs.Common.{◌≡◌, ◌≤◌, ◌∙◌, ◌++◌, inl, inr, length, length-append, length-drop}
-use Rattle.std.proofs.Common.{Err, ap, sym, refl, take, drop, subst, arith}
+use Rattle.std.proofs.Common.{ap, sym, take, drop, subst, arith}
 use Rattle.std.proofs.KnownBytes.{Consumes-kept, Consumes-trans}
 use Rattle.std.proofs.lemmas.List.{length-take-le, take-append-le}
 use Rattle.std.proofs.lemmas.Result.{err_from_is_err_and}
@@ -9,7 +9,7 @@ use Rattle.std.specs.Prelude.{map}
 use Rattle.nx_log.specs.NotedReader.{counted_of}
 use Rattle.nx_log.specs.Places.{unplaced}
 use Rattle.nx_log.specs.Salvage.{entries_in}
-use Rattle.nx_log.proofs.lemmas.runs.LogRuns.{fault-of, part-all}
+use Rattle.nx_log.proofs.lemmas.runs.LogRuns.{part-all}
 use Rattle.nx_log.proofs.log_runs.LogRun.read_log.Goals as goal
 
 pub returns-in_err-send-clause-read : goal.returns-in_err-send-clause-read
@@ -25,22 +25,6 @@ returns-in_err-send-clause-read g c = λ damaged old told h.
           (c.in_err-send.ensures.given c.args.query.now c.args.form old
           (map unplaced (entries_in run.stretches ++ run.last)) run.given))),
     )
-
-pub returns-in_err-send-clause-writes : goal.returns-in_err-send-clause-writes
-returns-in_err-send-clause-writes g c =
-    let p = err_from_is_err_and c.from_residual.result c.from_residual.ensures.1 in
-    let counts = c.in_err-send.ensures.counts in
-    record {
-      failed = (
-        λ w. counts.failed.0 refl,
-        λ one. (
-          c.in_err-send.field-0.0.written,
-          p.1
-              ∙ ap Err p.2,
-        ),
-      );
-      once = counts.once;
-    }
 
 pub returns-in-End-clause-read : goal.returns-in-End-clause-read
 returns-in-End-clause-read g c = λ damaged old told h.
@@ -96,27 +80,6 @@ returns-in-Failed-clause-read g c = λ damaged old told h.
         stands = run.stands;
       }) sent.1,
     )
-
-pub returns-in-Failed-clause-read_failed : goal.returns-in-Failed-clause-read_failed
-returns-in-Failed-clause-read_failed g c = λ one. elim c.unread.ensures.unread [
-  | inl read ↦ inl (ap Err read)
-  | inr w ↦ inr (w.0, (w.1.0, ap Err w.1.1))
-]
-
-pub returns-in-Failed-clause-told_before : goal.returns-in-Failed-clause-told_before
-returns-in-Failed-clause-told_before g c = λ one. (
-  ap (λ r. r.failures) c.in-Failed.ensures.asked ∙ c.loop-room.invariant.reader,
-  c.in-Failed.ensures.told,
-)
-
-pub returns-in-Failed-clause-writes : goal.returns-in-Failed-clause-writes
-returns-in-Failed-clause-writes g c = record {
-  failed = (
-    λ w. c.unread.ensures.failed.0 (w.0, fault-of _ _ w.1),
-    λ one. let w = c.unread.ensures.failed.1 one in (w.0, ap Err w.1),
-  );
-  once = c.unread.ensures.once;
-}
 
 pub returns-in_err-take_piece-clause-read : goal.returns-in_err-take_piece-clause-read
 returns-in_err-take_piece-clause-read g c = λ damaged old told h.

@@ -1,5 +1,5 @@
-use Rattle.std.proofs.Common.{◌≡◌, ◌≤◌, ◌++◌, ◌∷◌, ◌∙◌, [], ℕ, List, length, length-append, arith, sym, take, drop, ap, append_assoc, subst}
-use Rattle.std.proofs.lemmas.List.{take-append-drop, take_all}
+use Rattle.std.proofs.Common.{◌≡◌, ◌≤◌, ◌++◌, ◌∷◌, ◌∙◌, [], length, length-append, arith, sym, take, ap, append_assoc, subst}
+use Rattle.std.proofs.lemmas.List.{take_all}
 use Rattle.std.proofs.lemmas.Result.{err_from_is_err_and}
 use Rattle.nx_log.specs.LogReader.{IsAt}
 use Rattle.nx_log.specs.LogRun.{most_read}
@@ -206,6 +206,3 @@ returns-in-PassedOver-clause-taken g c = λ damaged old told bytes within h.
     (g.W.Write.contents c.args.writer.now.inner)
     (notices_of told (g.N.Write.contents c.pass_over.new.notices.inner)
     c.pass_over.new.notices.failures) (bytes ++ l)) (sym all) next
-
-pub returns-in-PassedOver-clause-reading : goal.returns-in-PassedOver-clause-reading
-returns-in-PassedOver-clause-reading g c = ([], [], [], c.pass_over.ensures.log)

@@ -1,6 +1,4 @@
-use Rattle.std.proofs.Common.{◌≤◌, ◌++◌, ℕ, List, length, length-append, arith, take, drop, ap}
-use Rattle.std.proofs.lemmas.List.{take-append-drop}
-use Rattle.nx_log.specs.LogRun.{most_read}
+use Rattle.std.proofs.Common.{arith, take}
 use Rattle.nx_log.specs.Notices.{notices_of}
 use Rattle.nx_log.specs.private.LogRunning.{IsRunning}
 use Rattle.nx_log.proofs.lemmas.runs.LogRuns.{front-answer, goes-by}

@@ -20,10 +20,3 @@ returns-in-Some g c = λ told stretches rest last torn within ended at h.
           (subst (λ k. HaveToldAll n (told_of stretches torn ++ torn_at k ∷ [])) line
           (c.tell_torn.ensures told (told_of stretches torn) h));
     }
-
-pub returns-in-None : goal.returns-in-None
-returns-in-None g c = λ told stretches rest last torn within ended at h. record {
-  torn = torn;
-  hold = c.in-None.ensures rest last torn at;
-  told = h;
-}

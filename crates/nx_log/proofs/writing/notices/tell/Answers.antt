@@ -1,10 +1,6 @@
 use Rattle.std.proofs.Common.{arith}
-use Rattle.nx_log.proofs.lemmas.runs.Telling.{told-out, told-stopped}
+use Rattle.nx_log.proofs.lemmas.runs.Telling.{told-out}
 use Rattle.nx_log.proofs.writing.notices.tell.Goals as goal
-
-pub returns-then-failures-gt0 : goal.returns-then-failures-gt0
-returns-then-failures-gt0 g c = λ old before h.
-    told-stopped old _ _ before _ (omega (arith, c.if-failures-gt0.true, c.failures.ensures)) h
 
 pub returns : goal.returns
 returns g c = λ old before h.

@@ -1,27 +1,8 @@
 use Rattle.std.proofs.Common.{refl}
 use Rattle.std.specs.List.{concat}
 use Rattle.std.proofs.lemmas.Result.{err_from_is_err_and}
-use Rattle.nx_log.specs.Places.{copy_of}
-use Rattle.nx_log.specs.Query.{admitted_by}
-use Rattle.nx_log.proofs.lemmas.runs.Outputs.{given-held, given-more, part-more, wrote-nothing}
+use Rattle.nx_log.proofs.lemmas.runs.Outputs.{given-more, part-more}
 use Rattle.nx_log.proofs.writing.output.Output.take.Goals as goal
-
-pub returns-in_err-take-clause-given : goal.returns-in_err-take-clause-given
-returns-in_err-take-clause-given g c = λ form one old entries said is sure h.
-    let p = err_from_is_err_and c.from_residual.result c.from_residual.ensures.1 in
-    rw p.1 (rw p.2 (wrote-nothing c.args.query.now form old
-    (g.W.Write.contents c.args.writer.now.inner) c.args.self.now entries h c.if-query.true))
-
-pub returns-in_ok-take-clause-given : goal.returns-in_ok-take-clause-given
-returns-in_ok-take-clause-given g c = λ form one old entries said is sure h.
-    given-held c.args.query.now form old (g.W.Write.contents c.args.writer.now.inner)
-    c.args.self.now entries h
-    (record {
-      batch = c.args.self.now.batch;
-      passed = c.args.self.now.passed;
-      held = c.take.new.self;
-    }) one c.if-query.true sure refl refl
-    (c.in_ok-take.ensures form one (admitted_by copy_of c.args.query.now entries) said is)
 
 pub returns-in_err-give-clause-given : goal.returns-in_err-give-clause-given
 returns-in_err-give-clause-given g c = λ form one old entries said is sure h.
