@@ -53,7 +53,12 @@ enum nx_live_status {
 #define NX_LIVE_CHANNEL 7464
 #define NX_LIVE_KEPT 22392
 #ifdef NX_LIVE_BY_WASM2C
-#define NX_LIVE_ROOM(channels) (51672 + (channels) * NX_LIVE_CHANNEL)
+#if NX_LIVE_FAMILIES > 0
+#define NX_LIVE_MODULE 60888
+#else
+#define NX_LIVE_MODULE 51672
+#endif
+#define NX_LIVE_ROOM(channels) (NX_LIVE_MODULE + (channels) * NX_LIVE_CHANNEL)
 #else
 #define NX_LIVE_ROOM(channels) ((channels) * NX_LIVE_CHANNEL)
 #endif
@@ -61,7 +66,8 @@ enum nx_live_status {
 
 /* The same of a receiver that takes several sendings of a message together: for so many channels, and so
  * many messages of each channel at a time, its *families*, 0 to 200; with 0 it is NX_LIVE_ROOM. A channel
- * has NX_LIVE_COMBINING_CHANNEL bytes, and each of its families NX_LIVE_FAMILY. */
+ * has NX_LIVE_COMBINING_CHANNEL bytes, and each of its families NX_LIVE_FAMILY. Over the C that wasm2c
+ * makes all is then compiled with the greatest number of families, as -DNX_LIVE_FAMILIES=60. */
 #define NX_LIVE_COMBINING_CHANNEL 19864
 #define NX_LIVE_FAMILY 8240
 #define NX_LIVE_MAX_FAMILIES 200
