@@ -13,7 +13,7 @@ use crate::family_room::FamilyRoom;
 use crate::kept_place::KeptPlace;
 use nx_combine::{FamilyRing, LentReceiver};
 use nx_copies::EntryHead;
-use nx_fec::PackedElements;
+use nx_fec::{Channel, PackedElements};
 use nx_memory::{PlainRecall, RenewingRecall, Saved, Selection, Vital};
 use nx_receiver::{Command, MomentFault};
 use std::marker::Model;
@@ -157,11 +157,14 @@ impl<F: FamilyRoom> KeptPlace for CombiningPlace<F> {
 
     // Built in the place of its caller, as of a plain place.
     #[inline(always)]
-    fn saved(&self) -> Saved {
-        let CombiningState::Hears(receiver) = &self.state else {
-            unreachable!()
-        };
-        receiver.saved()
+    fn left_on(places: &[CombiningPlace<F>], channel: Channel) -> Saved {
+        match places.get(usize::from(channel.number())) {
+            Some(place) => match &place.state {
+                CombiningState::Hears(receiver) => receiver.saved(),
+                _ => Saved::new(),
+            },
+            None => Saved::new(),
+        }
     }
 
     fn sendings(&self) -> u64 {

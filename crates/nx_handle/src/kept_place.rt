@@ -1,6 +1,6 @@
 //! The place of a channel of a receiver, which it has between two calls, of whatever kind.
 
-ghost use Rattle.std.specs.Prelude.{◌≡◌, ◌↔◌, ℕ, ◌+◌, ◌<◌, ◌≤◌, List, [], ◌++◌, length, take, drop, IfErr, IfSome, IsErr, IsNone, IsSome, IsTrue, OnErr, OnOk, true, false};
+ghost use Rattle.std.specs.Prelude.{◌≡◌, ◌↔◌, ℕ, ◌+◌, ◌<◌, ◌≤◌, List, [], ◌++◌, length, take, drop, IfErr, IfSome, IsErr, IsNone, IsSome, IsTrue, None, OnErr, OnOk, Some, true, false};
 ghost use Rattle.nx_envelope.specs.Moment.{last_moment};
 ghost use Rattle.nx_memory.specs.Memory.{newest_moment};
 ghost use Rattle.nx_copies.specs.Events as events;
@@ -10,11 +10,13 @@ ghost use Rattle.nx_receiver.specs.ChannelReceiver.{HandsOutNoneBeforeBy};
 ghost use Rattle.nx_receiver.specs.Commands.{refuses_vital, said};
 ghost use Rattle.nx_receiver.specs.Moments.{Refuses};
 ghost use Rattle.nx_receiver.specs.Receiver.{HeadsText, headed_list};
+ghost use Rattle.nx_memory.specs.Saved.{nothing_saved};
+ghost use Rattle.nx_handle.specs.Places.{place_on};
 ghost use Rattle.nx_handle.specs.PlaceKinds.{HasBegun, HasTaken, IsPlaceKind, PlaceKind, SameRoom, TakesEventIn, receiver_of, start_with};
 
 use nx_copies::EntryHead;
 use nx_envelope::MAX_FOUND;
-use nx_fec::PackedElements;
+use nx_fec::{Channel, PackedElements};
 use nx_memory::{PlainRecall, Saved, Selection, Vital};
 use nx_receiver::{Command, MomentFault};
 
@@ -113,11 +115,12 @@ pub trait KeptPlace {
         ensures open { kind.is_closed self.new ≡ false }
         ensures room { SameRoom kind self.old self.new };
 
-    /// What a channel leaves that hears, and is saved of it.
-    fn saved(&self) -> Saved
-        requires { kind.is_hearing self.now ≡ true }
-        ensures { (held : ℕ) (start : Start) (history : List Event) (log : List TaggedCopy)
-            → kind.stands held start self.now history log → kind.leaves held start history result };
+    /// What a channel leaves, and is saved of it; nothing where there is no place of it.
+    fn left_on(places: &[Self], channel: Channel) -> Saved
+        ensures leaves { (place : Self) → place_on places.now channel ≡ Some place
+            → (held : ℕ) (start : Start) (history : List Event) (log : List TaggedCopy)
+            → kind.stands held start place history log → kind.leaves held start history result }
+        ensures others { place_on places.now channel ≡ None → result ≡ nothing_saved };
 
     /// From how many sendings the entry is put together that was handed out last.
     fn sendings(&self) -> u64

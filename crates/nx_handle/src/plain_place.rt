@@ -2,7 +2,7 @@
 
 use crate::kept_place::KeptPlace;
 use nx_copies::EntryHead;
-use nx_fec::PackedElements;
+use nx_fec::{Channel, PackedElements};
 use nx_memory::{PlainRecall, Saved, Selection, Vital};
 use nx_receiver::{Command, MomentFault, Receiver};
 use std::mem;
@@ -98,11 +98,11 @@ impl KeptPlace for PlainPlace {
 
     // Built in the place of its caller.
     #[inline(always)]
-    fn saved(&self) -> Saved {
-        let PlainPlace::Hears(receiver) = self else {
-            unreachable!()
-        };
-        receiver.saved()
+    fn left_on(places: &[PlainPlace], channel: Channel) -> Saved {
+        match places.get(usize::from(channel.number())) {
+            Some(PlainPlace::Hears(receiver)) => receiver.saved(),
+            _ => Saved::new(),
+        }
     }
 
     fn sendings(&self) -> u64 {

@@ -52,7 +52,6 @@ pub fn save<P: KeptPlace>(places: &[P], state: &mut [u8], written: &mut usize) -
 // Built in the place of its caller.
 #[inline(always)]
 fn left_by<P: KeptPlace>(places: &[P]) -> SavedSet
-    requires { all_hear P.kind places.now ≡ true }
     ensures leaves { (channel : TheChannel) (place : P)
         → place_on places.now channel ≡ Some place
         → (held : ℕ) (start : Start) (history : List Event) (log : List TaggedCopy)
@@ -62,26 +61,10 @@ fn left_by<P: KeptPlace>(places: &[P]) -> SavedSet
         → saved_of result channel ≡ nothing_saved }
 {
     SavedSet::of(
-        left_on(places, Channel::Zero),
-        left_on(places, Channel::One),
-        left_on(places, Channel::Two),
+        P::left_on(places, Channel::Zero),
+        P::left_on(places, Channel::One),
+        P::left_on(places, Channel::Two),
     )
-}
-
-/// What a channel leaves; nothing where the receiver doesn't have it.
-// Built in the place of its caller too.
-#[inline(always)]
-fn left_on<P: KeptPlace>(places: &[P], channel: Channel) -> Saved
-    requires { all_hear P.kind places.now ≡ true }
-    ensures leaves { (place : P) → place_on places.now channel ≡ Some place
-        → (held : ℕ) (start : Start) (history : List Event) (log : List TaggedCopy)
-        → P.kind.stands held start place history log → P.kind.leaves held start history result }
-    ensures others { place_on places.now channel ≡ None → result ≡ nothing_saved }
-{
-    match places.get(usize::from(channel.number())) {
-        Some(place) => place.saved(),
-        None => Saved::new(),
-    }
 }
 
 /// Copies the text of a state into the caller's room, line by line.
