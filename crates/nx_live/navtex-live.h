@@ -54,9 +54,9 @@ enum nx_live_status {
 #define NX_LIVE_KEPT 22392
 #ifdef NX_LIVE_BY_WASM2C
 #if NX_LIVE_FAMILIES > 0
-#define NX_LIVE_MODULE 60888
+#define NX_LIVE_MODULE 57304
 #else
-#define NX_LIVE_MODULE 51672
+#define NX_LIVE_MODULE 48088
 #endif
 #define NX_LIVE_ROOM(channels) (NX_LIVE_MODULE + (channels) * NX_LIVE_CHANNEL)
 #else

@@ -76,9 +76,9 @@ WASM_RT_NO_RETURN void wasm_rt_trap(wasm_rt_trap_t why);
 /* Of the module's memory no byte is lent below this address. The stack of the module lies in its
  * first 131,072 bytes, and grows down; NX_LIVE_STACK of them are lent. An access below traps. */
 #if NX_LIVE_FAMILIES > 0
-#define NX_LIVE_STACK 46080u
+#define NX_LIVE_STACK 42496u
 #else
-#define NX_LIVE_STACK 36864u
+#define NX_LIVE_STACK 33280u
 #endif
 #define NX_LIVE_LOWEST (131072u - NX_LIVE_STACK)
 #define NX_LIVE_LENT(address) ((uint64_t)(address) - NX_LIVE_LOWEST)
