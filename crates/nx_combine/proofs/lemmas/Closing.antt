@@ -25,10 +25,6 @@ use Rattle.nx_copies.proofs.lemmas.locks.Texts.{bytes_are_reading}
 use Rattle.nx_combine.specs.CombinedHearing.{AllHeard, CombinedOver, CombinedStands, CopyHeard}
 use Rattle.nx_combine.specs.CombinedHearing.{LockHeard, copies_of, heard_by}
 use Rattle.nx_combine.specs.CombinedTaker.{TakesLock, TakesNow}
-use Rattle.nx_copies.specs.ReaderWords.{is_open}
-use Rattle.nx_envelope.specs.Finder.{is_ready_copy}
-use Rattle.nx_envelope.specs.declared.found.HeldCopy.{HeldCopy}
-use Rattle.nx_envelope.specs.declared.found.HeldCopy.TheVariants as held
 use Rattle.nx_copies.proofs.lemmas.locks.Growing.{ended_in-nil}
 use Rattle.nx_combine.specs.CopyPositions.{HeardCopy, PlacedCopy, ended_placed}
 use Rattle.nx_combine.specs.CopyPositions.{lock_bytes, lock_positions, past_placed, placed}
@@ -212,11 +208,6 @@ lock_left first held old reader bits settings heard fresh none over =
     none over.hearer)
 
 -- a copy that is ready stands open no more
-pub ready_shut : (copy : HeldCopy) → is_ready_copy copy ≡ true → is_open copy ≡ false
-ready_shut held.Nothing is = cc
-ready_shut (held.Open identity fresh) is = cc
-ready_shut (held.Ready identity how) is = refl
-
 -- All elements were heard, and the text that stands ends.
 
 -- an empty text has no copies

@@ -7,10 +7,11 @@ use Rattle.std.proofs.lemmas.List.{length-map, map-append}
 use Rattle.std.proofs.lemmas.List.Elements.{All-head, All-tail}
 use Rattle.nx_envelope.specs.Copies.{Copy, closed_copy, copies, ended_copies, open_headers}
 use Rattle.nx_envelope.specs.Header.{Header}
-use Rattle.nx_sync.specs.Locks.{IsNow, Lock, Past, hunting, locked}
+use Rattle.nx_sync.specs.Locks.{IsNow, Lock, hunting, locked}
 use Rattle.nx_sync.specs.Synchroniser.{Held, StandsAfter}
 use Rattle.nx_sync.specs.Words.{first_role, word_of_lock}
 use Rattle.nx_sync.specs.declared.step.Role.{Role}
+use Rattle.nx_sync.proofs.lemmas.states.StateChanges.{first_hunt}
 use Rattle.nx_copies.specs.Events.{Setting}
 use Rattle.nx_copies.specs.copies.FoundCopies.{FoundCopy, TaggedCopy, ended_in, ended_so_far, past_copies}
 use Rattle.nx_copies.specs.copies.FoundCopies.{past_text, tag}
@@ -431,10 +432,6 @@ module _ (first : Setting) (bits more : List Bool) (settings later : List Settin
     over_heard (Some over.CopyAndLock) is taken = both_heard is taken
 
 -- no bits bring no lock
-none_yet : IsNow [] [] (hunting 0)
-unfolding Past
-none_yet = record { past = refl; none = λ s after here. absurd (omega (arith, here.heard)) }
-
 -- What a taker hears, a hearer of copies and of their positions hears.
 pub hears_heard : (old new : Held) (before after : CombinedTaker) (heard : List Bool)
     (answer : Option Over) → Hears old before heard new after answer
@@ -464,9 +461,9 @@ nothing_combined first held taker stands fresh =
         at = record {
           locks = [];
           now = hunting 0;
-          stands = none_yet;
+          stands = first_hunt;
           takes = fresh;
         };
       };
-      heard = record { locks = []; now = hunting 0; stands = none_yet; heard = refl };
+      heard = record { locks = []; now = hunting 0; stands = first_hunt; heard = refl };
     }

@@ -161,21 +161,6 @@ pub index_joined-none : (limit : ℕ) (families : List Family) (heard : HeardCop
 unfolding index_joined_holding
 index_joined-none limit families heard is = ap (option_and_then (if_joins limit families heard)) is
 
-and_false : (b : Bool) → (b && false) ≡ false
-and_false true = refl
-and_false false = refl
-
-pub index_joined-gone : (limit : ℕ) (families : List Family) (heard : HeardCopy) (index : ℕ)
-    → last_index heard.copy.identity families ≡ Some index → slice_get families index ≡ None
-    → index_joined_holding limit families heard ≡ None
-unfolding index_joined_holding
-index_joined-gone limit families heard index is gone =
-    ap (option_and_then (if_joins limit families heard)) is
-    ∙ ap (λ o. if nat_lt index limit
-    && unwrap_or (option_map (λ (family : Family). takes_in family heard) o) false
-    then Some index else None) gone
-    ∙ ap (λ b. if b then Some index else None) (and_false (nat_lt index limit))
-
 pub index_joined-at : (limit : ℕ) (families : List Family) (heard : HeardCopy) (index : ℕ)
     (family : Family)
     (b : Bool) → last_index heard.copy.identity families ≡ Some index

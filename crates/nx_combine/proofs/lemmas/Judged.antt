@@ -520,7 +520,7 @@ prints_known entries content before one head text selected urgent known held is 
     || (k && is_better_than_before before one)) (sym passes)
     ∙ sym (prints_where entries content before one head text selected known held is knows)
 
-or_true : (b : Bool) → (b || true) ≡ true
+pub or_true : (b : Bool) → (b || true) ≡ true
 or_true true = refl
 or_true false = refl
 
@@ -581,10 +581,6 @@ made_printed entries before one entered passes is =
 pub some_as : (f : ℕ → ℕ) (o : Option ℕ) → is_some (option_map f o) ≡ is_some o
 some_as f None = refl
 some_as f (Some i) = refl
-
-pub and_second : (a b : Bool) → (a && b) ≡ true → b ≡ true
-and_second true b is = is
-and_second false b is = absurd (let contra : false ≡ true = is in cc)
 
 pub numbered_some : (o : Option ℕ) (P : Type 0) → is_some o ≡ true → IfSome o (λ i. P) → P
 numbered_some None P is h = absurd (let contra : false ≡ true = is in cc)

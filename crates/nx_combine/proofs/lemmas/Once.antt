@@ -5,7 +5,7 @@ use Rattle.std.proofs.Common.{◌&&◌, ◌||◌, if◌then◌else◌, nat_lt, O
 use Rattle.std.proofs.Common.{◌++◌}
 use Rattle.std.proofs.Common.{length, map, drop, refl, sym, ap, ap₂, ◌∙◌, subst, subst₂, arith}
 use Rattle.std.proofs.Common.{append_assoc, append-nil}
-use Rattle.std.proofs.lemmas.Bool.{eq-eqb, eqb-true, le-leb, leb-true, lt-ltb}
+use Rattle.std.proofs.lemmas.Bool.{and_parts, eq-eqb, eqb-true, le-leb, leb-true, lt-ltb}
 use Rattle.std.proofs.lemmas.List.{drop-append-le, length-append}
 use Rattle.std.proofs.lemmas.List.Folds.{list_any-append}
 use Rattle.std.proofs.lemmas.Option.{slice_get_within}
@@ -45,7 +45,7 @@ use Rattle.nx_combine.specs.Laws.{AreHeardTogetherHolding, CameThrough, IsHeardO
 use Rattle.nx_combine.specs.Laws.{positions_heard}
 use Rattle.nx_combine.proofs.lemmas.Held.{Begins, begins_one, joined_at_index, joins_one, no_family}
 use Rattle.nx_combine.proofs.lemmas.Judged.{better_alone, find_by_number, is_not, made_printed}
-use Rattle.nx_combine.proofs.lemmas.Judged.{own_is, made_unprinted, printed, unprinted}
+use Rattle.nx_combine.proofs.lemmas.Judged.{or_true, own_is, made_unprinted, printed, unprinted}
 use Rattle.nx_combine.proofs.lemmas.Printed.{full_is, last_whole, nothing_behind}
 use Rattle.nx_combine.proofs.lemmas.Combine.{how_given, text_given}
 use Rattle.nx_combine.proofs.lemmas.Sendings.{family_of_first, first_begins, whole_copy}
@@ -205,10 +205,6 @@ pub record Goes (sent : List ℕ) (behind : ℕ → ℕ) (identity : Identity) (
 any_left : (p : MemoryEntry → Bool) (xs ys : List MemoryEntry) → list_any p xs ≡ true
     → list_any p (xs ++ ys) ≡ true
 any_left p xs ys is = list_any-append p xs ys ∙ ap (λ b. b || list_any p ys) is
-
-or_true : (b : Bool) → (b || true) ≡ true
-or_true true = refl
-or_true false = refl
 
 any_right : (p : MemoryEntry → Bool) (xs ys : List MemoryEntry) → list_any p ys ≡ true
     → list_any p (xs ++ ys) ≡ true
@@ -388,10 +384,6 @@ any_as p q [] follows is = absurd (let contra : false ≡ true = is in cc)
 any_as p q (x ∷ xs) follows is =
     any_at p q x xs (p x) (follows x) (any_as p q xs follows) refl is
 
-and_parts : (a b : Bool) → (a && b) ≡ true → (a ≡ true) × (b ≡ true)
-and_parts true b is = (refl, is)
-and_parts false b is = absurd (let contra : false ≡ true = is in cc)
-
 recent_own : (identity : Identity) (moment now : ℕ) (entry : MemoryEntry) → now - moment < 237600
     → is_own identity moment entry ≡ true → is_recent identity now entry ≡ true
 recent_own identity moment now entry near is =
@@ -484,7 +476,7 @@ once_behind identity text front printed_now later none once = record {
   both [] all = once.not_before
   both (x ∷ xs) all = (all.0, both xs all.1)
 
-all_if : (P : CombinedCopy → Type 0) (one : CombinedCopy) (rest : List CombinedCopy) (b : Bool)
+pub all_if : (P : CombinedCopy → Type 0) (one : CombinedCopy) (rest : List CombinedCopy) (b : Bool)
     → P one → AllByRecursion P rest → AllByRecursion P ((if b then one ∷ [] else []) ++ rest)
 all_if P one rest true here behind = (here, behind)
 all_if P one rest false here behind = behind

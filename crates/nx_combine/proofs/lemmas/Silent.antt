@@ -4,19 +4,16 @@ use Rattle.std.proofs.Common.{◌≡◌, ℕ, Bool, List, [], ◌∷◌, ◌++�
 use Rattle.std.proofs.Common.{◌∙◌, arith, subst}
 use Rattle.nx_memory.specs.declared.memories.entry.MemoryEntry.{MemoryEntry}
 use Rattle.nx_sync.specs.Locks.{IsNow, Lock, Now, Past, hunting, locked}
-use Rattle.nx_copies.specs.Events.{Event, Setting, Start, at_moment, elements_among, first_setting}
+use Rattle.nx_copies.specs.Events.{Setting, Start, at_moment, elements_among, first_setting}
 use Rattle.nx_copies.specs.Events.{settings}
-use Rattle.nx_copies.specs.copies.FoundCopies.{TaggedCopy}
 use Rattle.nx_copies.specs.hearing.CopyHearer.{IsFresh}
 use Rattle.nx_receiver.specs.ChannelReceiver.{TakesEventBy}
 use Rattle.nx_receiver.proofs.lemmas.receiver.Events.{a_moment}
 use Rattle.nx_combine.specs.CombinedHearing.{HaveBeenHeard, heard_by}
-use Rattle.nx_combine.specs.CombinedPrinting.{HasPrintedHolding, PrintsHoldingToEnd}
-use Rattle.nx_combine.specs.CombinedPrinting.{printed_of_placed_holding}
 use Rattle.nx_combine.specs.CombinedReceiver.{ReceiverOver, StandsAfterAllHolding}
 use Rattle.nx_combine.specs.CombinedReceiver.{combined_kind_holding, judged_none, receiver_in}
 use Rattle.nx_combine.specs.CombinedTaker.{TakesNow}
-use Rattle.nx_combine.specs.CopyPositions.{HeardCopy, ended_placed, past_placed, placed_to_end}
+use Rattle.nx_combine.specs.CopyPositions.{HeardCopy, ended_placed, past_placed}
 use Rattle.nx_combine.specs.Judging.{HeldFamilies, StandsHolding, combiner_of}
 use Rattle.nx_combine.specs.Judging.{judged_behind_holding, sendings_of_last}
 use Rattle.nx_combine.specs.declared.taker.CombinedTaker.{CombinedTaker}
@@ -106,23 +103,3 @@ module _ {S P M : Type 0} (lying : S → List P → HeldFamilies) (held : ℕ)
       together_after held content (receiver_in lying r places)
       (record { moment = n; refused = r.taker.copies.selection }) (at_moment n) a_moment refl start
       history log s
-
-same-copies : (bits : List Bool) (locks : List Lock) (now : Now) → bits ≡ [] → IsNow bits locks now
-    → ended_placed bits locks now ≡ placed_to_end bits locks now
-unfolding ended_placed placed_to_end
-same-copies bits locks (hunting p) none is = refl
-same-copies bits locks (locked p t) none is =
-    absurd (omega (arith, is.found.after, is.found.here.heard, ap length none))
-
--- the end prints nothing more where no element was given
-pub silent-end : (held : ℕ) (start : Start) (events : List Event) (log : List TaggedCopy)
-    → elements_among events ≡ [] → HasPrintedHolding held start events log
-    → PrintsHoldingToEnd held start events log
-silent-end held start events log none h = record {
-  locks = h.locks;
-  now = h.now;
-  stands = h.stands;
-  printed = h.printed
-      ∙ ap (printed_of_placed_holding held start events)
-      (same-copies (elements_among events) h.locks h.now none h.stands);
-}

@@ -17,64 +17,10 @@ use Rattle.nx_handle.specs.Places.{KeepsRoom, all_closed, all_hear, place_on}
 use Rattle.nx_handle.specs.Receivers.{one_on}
 use Rattle.nx_handle.specs.Status.{number_of}
 use Rattle.nx_handle.specs.CallerRoom.{IsCopiedOut, Room}
-use Rattle.nx_handle.proofs.lemmas.Places.{each-is, one-or-other, past, rooms-same, set-here, set-there, some-is, there, within}
+use Rattle.nx_handle.proofs.lemmas.Places.{each-is, one-or-other, past, set-here, set-there, some-is, there, within}
 
 open-status : (capacity : ℕ) → 4163 ≤ capacity → 0 ≡ number_of (closing_status false capacity)
 open-status capacity enough = grind (arith, common_steps)
-
-small-status : (capacity : ℕ) → capacity < 4163 → 1 ≡ number_of (closing_status false capacity)
-small-status capacity small = grind (arith, common_steps)
-
--- the receiver is closed
-pub closes-closed : {P : Type 0} (kind : PlaceKind P) (old : List P) (log : Room) (answer : ℕ)
-    → all_closed kind old ≡ true → answer ≡ 32 → IsCopiedOut [] log
-    → AnswersClosing kind old old log answer
-closes-closed kind old log answer closed is copied = record {
-  cause = is ∙ sym (ap (λ b. number_of (closing_status b (length log.old))) closed);
-  text = [];
-  copied = copied;
-  fits = omega arith;
-  done = λ e. absurd (omega (arith, sym is ∙ e));
-  refused = λ _. (refl, refl);
-  channels = refl;
-  rooms = rooms-same kind refl;
-}
-
--- there is no room for the largest entry
-pub closes-without-room : {P : Type 0} (kind : PlaceKind P) (old : List P) (log : Room)
-    (answer : ℕ) → all_closed kind old ≡ false → length log.old < 4163 → answer ≡ 1
-    → IsCopiedOut [] log → AnswersClosing kind old old log answer
-closes-without-room kind old log answer is_open small is copied = record {
-  cause = is ∙ small-status (length log.old) small
-      ∙ sym (ap (λ b. number_of (closing_status b (length log.old))) is_open);
-  text = [];
-  copied = copied;
-  fits = omega arith;
-  done = λ e. absurd (omega (arith, sym is ∙ e));
-  refused = λ _. (refl, refl);
-  channels = refl;
-  rooms = rooms-same kind refl;
-}
-
--- none is left
-pub closes-last : {P : Type 0} (kind : PlaceKind P) (old new : List P) (log : Room)
-    → all_closed kind old ≡ false → 4163 ≤ length log.old → IsCopiedOut [] log
-    → EndsWith kind old [] → all_closed kind new ≡ true → length new ≡ length old
-    → KeepsRoom kind old new → AnswersClosing kind old new log 0
-closes-last kind old new log is_open enough copied none closed long rooms = record {
-  cause = open-status (length log.old) enough
-      ∙ sym (ap (λ b. number_of (closing_status b (length log.old))) is_open);
-  text = [];
-  copied = copied;
-  fits = omega arith;
-  done = λ _. record {
-    was_open = is_open;
-    goes = inr (record { none = none; nothing = refl; closed = closed });
-  };
-  refused = λ no. absurd (no refl);
-  channels = long;
-  rooms = rooms;
-}
 
 -- one is handed out
 pub closes-one : {P : Type 0} (kind : PlaceKind P) (old new : List P) (log : Room)

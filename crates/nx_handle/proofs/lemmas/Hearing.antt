@@ -1,5 +1,5 @@
 -- Elements that the receiver of a channel hears piece by piece.
-use Rattle.std.proofs.Common.{◌≡◌, ◌<◌, ◌≤◌, ◌+◌, ◌-◌, inl, inr, ℕ, Bool, List, [], ◌∷◌, ◌++◌, length, take, drop, min, true, arith, refl, sym, ap, ◌∙◌, subst}
+use Rattle.std.proofs.Common.{◌≡◌, ◌<◌, ◌≤◌, ◌+◌, ◌-◌, inl, inr, ℕ, Bool, List, [], ◌∷◌, ◌++◌, length, take, drop, min, true, arith, sym, ap, ◌∙◌, subst}
 use Rattle.std.proofs.lemmas.List.{append_assoc, append-nil, take-append-le, length-append}
 use Rattle.std.proofs.lemmas.Bool.{cases_lt}
 use Rattle.std.proofs.lemmas.List.{length-drop, length-map, length-take, length-take-le, map-append, take-append-drop, take-map}
@@ -35,16 +35,6 @@ pub record HearsSilently {P : Type 0} (kind : PlaceKind P) (old new : P) (bits :
   pub first : (held : ℕ) → HandsOutNoneBeforeBy (receiver_of kind held) old bits (length bits)
   pub now : kind.is_hearing new ≡ true
   pub room : SameRoom kind old new
-
-pub hears-nothing : {P : Type 0} (kind : PlaceKind P) (old : P) → kind.is_hearing old ≡ true
-    → HearsSilently kind old old []
-hears-nothing kind old hears = record {
-  heard = λ held start history log s. subst (λ es. kind.stands held start old es log)
-      (sym (append-nil history)) s;
-  first = λ held start history log s k lt. absurd (omega (arith, lt));
-  now = hears;
-  room = record { families = refl; vacant = refl };
-}
 
 -- more elements, behind others
 elements-more : (history : List Event) (one more bits : List Bool) → bits ≡ one ++ more

@@ -10,6 +10,7 @@ use Rattle.nx_memory.specs.StateText.{IsStateText}
 use Rattle.nx_memory.specs.declared.memories.entry.MemoryEntry.{MemoryEntry}
 use Rattle.nx_memory.proofs.lemmas.StateTexts.{nothing_sound}
 use Rattle.nx_copies.specs.copies.Shares.{saved_of, start_on, starts_from}
+use Rattle.nx_receiver.proofs.lemmas.chain.Moments.{later-first, later-second}
 use Rattle.nx_handle.specs.PlaceKinds.{start_with}
 
 -- the start of a channel, by what is saved of it
@@ -24,37 +25,27 @@ start-is states channel saved entries moment refused is es r m =
 
 -- ---- the greatest moment
 
-first-within : (one other : Option ℕ) → unwrap_or one 0 ≤ unwrap_or (later_of one other) 0
-first-within None other = omega arith
-first-within (Some n) None = omega arith
-first-within (Some n) (Some m) = omega arith
-
-other-within : (one other : Option ℕ) → unwrap_or other 0 ≤ unwrap_or (later_of one other) 0
-other-within None other = omega arith
-other-within (Some n) None = omega arith
-other-within (Some n) (Some m) = omega arith
-
 -- no entry of a channel is past it
 pub newest-within : (states : SavedStates) (channel : Channel)
     → newest_moment (saved_of states channel).entries ≤ unwrap_or (newest_of_all states) 0
 newest-within states Zero =
-    first-within (newest_of states.on_0.entries)
+    later-first (newest_of states.on_0.entries)
     (later_of (newest_of states.on_1.entries) (newest_of states.on_2.entries))
 newest-within states One =
     let one = newest_of states.on_1.entries in
     let two = newest_of states.on_2.entries in
     omega (
       arith,
-      first-within one two,
-      other-within (newest_of states.on_0.entries) (later_of one two),
+      later-first one two,
+      later-second (newest_of states.on_0.entries) (later_of one two),
     )
 newest-within states Two =
     let one = newest_of states.on_1.entries in
     let two = newest_of states.on_2.entries in
     omega (
       arith,
-      other-within one two,
-      other-within (newest_of states.on_0.entries) (later_of one two),
+      later-second one two,
+      later-second (newest_of states.on_0.entries) (later_of one two),
     )
 
 -- the later of two moments is in range where both are

@@ -1,8 +1,8 @@
 -- Places in a list, and channels by their numbers.
-use Rattle.std.proofs.Common.{◌≡◌, ◌≢◌, ◌<◌, ◌≤◌, ◌+◌, ◌⊎◌, ◌&&◌, inl, inr, ℕ, zero, suc, Bool, true, false, List, [], ◌∷◌, ◌++◌, length, map, take, drop, get_or, slice_get, slice_set, Option, Some, None, Result, Ok, Err, OnOk, arith, refl, sym, subst, ap, ap₂, ◌∙◌}
+use Rattle.std.proofs.Common.{◌≡◌, ◌≢◌, ◌<◌, ◌≤◌, ◌+◌, ◌⊎◌, inl, inr, ℕ, zero, suc, Bool, true, false, List, [], ◌∷◌, ◌++◌, length, map, take, drop, get_or, slice_get, slice_set, Option, Some, None, Result, Ok, Err, OnOk, arith, refl, sym, subst, ap, ap₂, ◌∙◌}
 use Rattle.std.specs.List.{list_all}
 use Rattle.std.proofs.lemmas.Option.{slice_get-get_or}
-use Rattle.std.proofs.lemmas.Bool.{true≢false}
+use Rattle.std.proofs.lemmas.Bool.{and_from, and_parts, true≢false}
 use Rattle.std.proofs.lemmas.List.{length-map}
 use Rattle.nx_fec.specs.air_files.Channels.{channel_number, same_channel}
 use Rattle.nx_fec.specs.declared.air_files.channel.Channel.{Channel}
@@ -72,36 +72,24 @@ same-list (x ∷ xs) (y ∷ ys) h =
 
 -- ---- a test of each
 
-and-left : (a b : Bool) → (a && b) ≡ true → a ≡ true
-and-left true b e = refl
-and-left false b e = e
-
-and-right : (a b : Bool) → (a && b) ≡ true → b ≡ true
-and-right true b e = e
-and-right false b e = absurd (true≢false (sym e))
-
 pub each-is : {X : Type 0} (test : X → Bool) (xs : List X) (k : ℕ) (x : X)
     → list_all test xs ≡ true → slice_get xs k ≡ Some x → test x ≡ true
 each-is test [] k x all e = absurd (none-is e)
 each-is test (y ∷ ys) zero x all e =
-    ap test (sym (some-is e)) ∙ and-left (test y) (list_all test ys) all
+    ap test (sym (some-is e)) ∙ (and_parts (test y) (list_all test ys) all).0
 each-is test (y ∷ ys) (suc k) x all e =
-    each-is test ys k x (and-right (test y) (list_all test ys) all) e
-
-and-of : (a b : Bool) → a ≡ true → b ≡ true → (a && b) ≡ true
-and-of true b e f = f
-and-of false b e f = e
+    each-is test ys k x (and_parts (test y) (list_all test ys) all).1 e
 
 -- another that passes the test
 pub all-set : {X : Type 0} (test : X → Bool) (xs : List X) (k : ℕ) (x : X)
     → list_all test xs ≡ true → test x ≡ true → list_all test (slice_set xs k x) ≡ true
 all-set test [] k x all is = all
 all-set test (y ∷ ys) zero x all is =
-    and-of (test x) (list_all test ys) is (and-right (test y) (list_all test ys) all)
+    and_from (test x) (list_all test ys) is (and_parts (test y) (list_all test ys) all).1
 all-set test (y ∷ ys) (suc k) x all is =
-    and-of (test y) (list_all test (slice_set ys k x))
-    (and-left (test y) (list_all test ys) all)
-    (all-set test ys k x (and-right (test y) (list_all test ys) all) is)
+    and_from (test y) (list_all test (slice_set ys k x))
+    (and_parts (test y) (list_all test ys) all).0
+    (all-set test ys k x (and_parts (test y) (list_all test ys) all).1 is)
 
 not-true : (b : Bool) → (b ≡ true → ⊥) → b ≡ false
 not-true true never = absurd (never refl)
@@ -119,8 +107,8 @@ pub shut-closed : {P : Type 0} (kind : PlaceKind P) → IsPlaceKind kind → (pl
     → all_closed kind (map kind.shut places) ≡ true
 shut-closed kind laws [] = refl
 shut-closed kind laws (x ∷ xs) =
-    and-of (kind.is_closed (kind.shut x)) (all_closed kind (map kind.shut xs)) (laws.shut_closed x)
-    (shut-closed kind laws xs)
+    and_from (kind.is_closed (kind.shut x)) (all_closed kind (map kind.shut xs))
+    (laws.shut_closed x) (shut-closed kind laws xs)
 
 -- a receiver that is closed stays as it is
 pub closed-shut : {P : Type 0} (kind : PlaceKind P) → IsPlaceKind kind → (places : List P)
@@ -128,8 +116,8 @@ pub closed-shut : {P : Type 0} (kind : PlaceKind P) → IsPlaceKind kind → (pl
 closed-shut kind laws [] e = refl
 closed-shut kind laws (x ∷ xs) e =
     ap₂ (λ a rest. a ∷ rest)
-    (laws.closed_shut x (and-left (kind.is_closed x) (all_closed kind xs) e))
-    (closed-shut kind laws xs (and-right (kind.is_closed x) (all_closed kind xs) e))
+    (laws.closed_shut x (and_parts (kind.is_closed x) (all_closed kind xs) e).0)
+    (closed-shut kind laws xs (and_parts (kind.is_closed x) (all_closed kind xs) e).1)
 
 -- where a function of a place stays the same once it is shut, it does of places
 shut-keeps : {P Y : Type 0} (kind : PlaceKind P) (f : P → Y)
@@ -189,12 +177,6 @@ shut-same kind laws old new e = ap (map kind.shut) e ∙ shut-twice kind laws ol
 pub closed-again : {P : Type 0} (kind : PlaceKind P) → IsPlaceKind kind → (old new end : List P)
     → all_closed kind old ≡ true → ShutSame kind old new → end ≡ map kind.shut new → end ≡ old
 closed-again kind laws old new end closed same e = e ∙ same ∙ closed-shut kind laws old closed
-
--- two receivers of the same places are the same, where both are closed
-pub both-closed : {P : Type 0} (kind : PlaceKind P) → IsPlaceKind kind → (old new : List P)
-    → all_closed kind old ≡ true → all_closed kind new ≡ true → ShutSame kind old new → new ≡ old
-both-closed kind laws old new e f same =
-    sym (closed-shut kind laws new f) ∙ same ∙ closed-shut kind laws old e
 
 -- another place there, of which the same holds
 -- those so far are shut, and the others are as they were
@@ -262,11 +244,6 @@ number-is One Two e = absurd (omega (arith, e))
 number-is Two Zero e = absurd (omega (arith, e))
 number-is Two One e = absurd (omega (arith, e))
 number-is Two Two e = refl
-
-pub few-channels : (channel : Channel) → channel_number channel < 3
-few-channels Zero = omega arith
-few-channels One = omega arith
-few-channels Two = omega arith
 
 -- one that is read by its place
 pub read-at : {X : Type 0} (xs : List X) (i : ℕ) (d : X) (channel : Channel) → i < length xs

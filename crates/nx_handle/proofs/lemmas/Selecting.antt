@@ -1,5 +1,5 @@
 -- What selecting answers.
-use Rattle.std.proofs.Common.{◌≡◌, ◌<◌, ◌≤◌, ℕ, Bool, true, false, IsTrue, if◌then◌else◌, List, length, slice_set, refl, sym, ap, ◌∙◌, subst, Some, arith}
+use Rattle.std.proofs.Common.{◌≡◌, ◌<◌, ℕ, Bool, true, false, IsTrue, if◌then◌else◌, List, length, slice_set, refl, sym, ap, ◌∙◌, subst, Some, arith}
 use Rattle.std.proofs.lemmas.Grind.{common_steps}
 use Rattle.nx_fec.specs.air_files.Channels.{channel_number}
 use Rattle.nx_fec.specs.declared.air_files.channel.Channel.{Channel}
@@ -13,9 +13,9 @@ use Rattle.nx_handle.specs.Places.{KeepsRoom, all_hear, place_on}
 use Rattle.nx_handle.specs.Selecting.{AnswersSelecting, byte_status, command_status, selecting_status}
 use Rattle.nx_handle.specs.Status.{number_of}
 use Rattle.nx_handle.specs.declared.status.Status.{Status}
-use Rattle.nx_handle.specs.declared.status.Status.TheVariants.{Done, NoChannel, Vital}
+use Rattle.nx_handle.specs.declared.status.Status.TheVariants.{Done, Vital}
 use Rattle.nx_handle.proofs.lemmas.Heard.{command-in}
-use Rattle.nx_handle.proofs.lemmas.Places.{all-set, room-set, rooms-same, set-long, within}
+use Rattle.nx_handle.proofs.lemmas.Places.{all-set, room-set, set-long, within}
 
 pub selecting-done : {P : Type 0} (kind : PlaceKind P) → IsPlaceKind kind → (asked : Status)
     (c : Command) (channel : Channel) (old new : List P) (r after : P)
@@ -43,36 +43,15 @@ selecting-done kind laws asked c channel old new r after hear at is done takes n
       rooms = subst (KeepsRoom kind old) (sym is) (room-set kind old n after r at room);
     }
 
--- a command that isn't done leaves all as it was
-pub selecting-refused : {P : Type 0} (kind : PlaceKind P) (asked : Status) (c : Command)
-    (channel answer : ℕ) (old new : List P)
-    → answer ≡ number_of (selecting_status asked (all_hear kind old)) → (answer ≡ 0 → ⊥)
-    → new ≡ old → AnswersSelecting kind asked c channel old new answer
-selecting-refused kind asked c channel answer old new cause fails same = record {
-  cause = cause;
-  done = λ e. absurd (fails e);
-  refused = λ _. same;
-  channels = ap length same;
-  rooms = rooms-same kind same;
-}
-
 not-vital : (vital : Bool) → (IsTrue vital → IsTrue false)
     → (if vital then Vital else Done) ≡ Done
 not-vital true spared = let bad = spared refl in cc
 not-vital false spared = refl
 
-is-vital : (vital : Bool) → IsTrue vital → (if vital then Vital else Done) ≡ Vital
-is-vital true h = refl
-is-vital false h = cc
-
 -- on a channel that there is
 pub on-channel : (channel count : ℕ) (command : TheCommand ℕ) → channel < count
     → command_status channel count command ≡ byte_status command
 on-channel channel count command lt = grind (arith, common_steps)
-
-pub no-channel : (channel count : ℕ) (command : TheCommand ℕ) → count ≤ channel
-    → command_status channel count command ≡ NoChannel
-no-channel channel count command le = grind (arith, common_steps)
 
 -- a command for a letter, on a channel that there is, which refuses no vital subject; or does
 pub command-done : (channel count : ℕ) (command : TheCommand ℕ) (vital : Bool) → channel < count
@@ -80,9 +59,3 @@ pub command-done : (channel count : ℕ) (command : TheCommand ℕ) (vital : Boo
     → (IsTrue vital → IsTrue false) → command_status channel count command ≡ Done
 command-done channel count command vital lt asked spared =
     on-channel channel count command lt ∙ asked ∙ not-vital vital spared
-
-pub command-vital : (channel count : ℕ) (command : TheCommand ℕ) (vital : Bool) → channel < count
-    → byte_status command ≡ (if vital then Vital else Done)
-    → IsTrue vital → command_status channel count command ≡ Vital
-command-vital channel count command vital lt asked h =
-    on-channel channel count command lt ∙ asked ∙ is-vital vital h

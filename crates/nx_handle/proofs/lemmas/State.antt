@@ -1,7 +1,6 @@
 -- How long the text of a state is.
-use Rattle.std.proofs.Common.{◌≡◌, ℕ, ◌+◌, ◌*◌, ◌≤◌, zero, suc, Bool, true, false, cond, List, [], ◌∷◌, ◌++◌, length, map, ap, sym, ◌∙◌, subst, inr, refl, append_assoc, take, slice_get, Some, arith}
-use Rattle.std.specs.List.{AllByRecursion, filter, range_with_len}
-use Rattle.std.specs.FinSet as set
+use Rattle.std.proofs.Common.{◌≡◌, ℕ, ◌+◌, ◌*◌, ◌≤◌, suc, List, [], ◌∷◌, ◌++◌, length, map, ap, sym, ◌∙◌, subst, inr, refl, append_assoc, take, slice_get, Some, arith}
+use Rattle.std.specs.List.{AllByRecursion}
 use Rattle.std.specs.Prelude.{codes}
 use Rattle.std.proofs.lemmas.List.{length-append, length-map, map-append}
 use Rattle.nx_code.specs.Reading.{newline}
@@ -11,8 +10,9 @@ use Rattle.nx_memory.specs.declared.memories.entry.MemoryEntry.{MemoryEntry}
 use Rattle.nx_memory.proofs.lemmas.StateLaws.{text_short}
 use Rattle.nx_code.proofs.lemmas.Each.{each_left, each_right}
 use Rattle.nx_receiver.specs.air_file_runs.State.{ended_lines, state_bytes}
+use Rattle.nx_receiver.proofs.lemmas.state.Bounds.{few_rising}
 use Rattle.nx_receiver.proofs.lemmas.state.Splits.{ended-append, ended-one}
-use Rattle.nx_receiver.proofs.lemmas.state.Writing.{state_bytes-is}
+use Rattle.nx_receiver.proofs.lemmas.state.Writing.{state_bytes-is, take-next}
 use Rattle.nx_handle.specs.Saving.{longest_state}
 
 -- lines and others have as many bytes as both
@@ -38,21 +38,6 @@ short-lines (line ∷ lines) all =
     omega (arith, one-long line lines, rest, short)
 
 -- there are at most 26 letters
-few-picked : (p : ℕ → Bool) (first n : ℕ) → length (filter p (range_with_len first n)) ≤ n
-few-picked p first zero = omega arith
-few-picked p first (suc n) =
-    let few = few-picked p (first + 1) n in
-    elim (p first) as (λ b. length
-    (cond b (first ∷ filter p (range_with_len (first + 1) n))
-    (filter p (range_with_len (first + 1) n))) ≤ suc n) [
-      | true ↦ omega (arith, few)
-      | false ↦ omega (arith, few)
-    ]
-
-few-rising : (letters : _) → length (rising letters) ≤ 26
-unfolding rising
-few-rising letters = few-picked (set.contains letters) 65 26
-
 -- lines of 4 bytes have 5 with their line feeds
 fours-long : {S : Type 0} (spell : S → List ℕ) (make : ℕ → S) (letters : List ℕ)
     → ((letter : ℕ) → length (spell (make letter)) ≡ 4)
@@ -108,8 +93,8 @@ section-long : (saved : SavedState) → IsSavedState saved
     → length (ended_lines (section saved)) ≤ 3660
 section-long saved is all =
     lines-long _ _ _ _ (rising saved.refused.stations) (rising saved.refused.subjects)
-    saved.entries (λ letter. refl) (λ letter. refl) (few-rising saved.refused.stations)
-    (few-rising saved.refused.subjects) is.entries.content.bounded all
+    saved.entries (λ letter. refl) (λ letter. refl) (few_rising saved.refused.stations)
+    (few_rising saved.refused.subjects) is.entries.content.bounded all
 
 pub few-bytes : (states : SavedStates) → AreSavedStates states
     → length (state_bytes states) ≤ longest_state
@@ -142,14 +127,6 @@ few-bytes states are =
     )
 
 -- ---- line by line
-
-take-next : (lines : List (List ℕ)) (place : ℕ) (line : List ℕ) → slice_get lines place ≡ Some line
-    → take (suc place) lines ≡ take place lines ++ line ∷ []
-take-next [] place line e = cc
-take-next (first ∷ lines) zero line e = let same : first ≡ line = cc in
-    ap (λ (l : List ℕ). l ∷ []) same
-take-next (first ∷ lines) (suc place) line e =
-    ap (λ (l : List (List ℕ)). first ∷ l) (take-next lines place line e)
 
 -- one line more, with its line feed
 pub ended-next : (lines : List (List ℕ)) (place : ℕ) (line : List ℕ)

@@ -23,6 +23,7 @@ use Rattle.nx_copies.specs.copies.Printing.{entry_of, is_entered, is_printed, is
 use Rattle.nx_copies.specs.laws.Once.{FewBetween, IsUnknownAtFirst}
 use Rattle.nx_promises.specs.examples.Chain.{copy_heard, found_on}
 use Rattle.nx_promises.specs.examples.Repeats.{eb02, first_copy, heard_at}
+use Rattle.nx_promises.proofs.lemmas.examples.Repeats.{made_few}
 use Rattle.nx_station.specs.reception.PathExample.{ea01, example_message}
 use Rattle.nx_left_on.specs.Bounds.{copies_between, entry_then, other_entries, silent_watch, spaced}
 use Rattle.nx_left_on.specs.Bounds.{watch_behind, watches_between}
@@ -32,7 +33,7 @@ use Rattle.nx_left_on.specs.Example.{first_moment, first_watch, one_entry, secon
 use Rattle.nx_left_on.specs.LeftOn.{AreFewOver, CutWatch, IsHeardInTimeOver, IsSentIn, IsUnknownOver}
 use Rattle.nx_left_on.specs.LeftOn.{JudgedCopy, elements_in, in_force_in, made_before}
 use Rattle.nx_left_on.proofs.lemmas.Example.{Hears, copy_then, first-hears, four-hours, hears-all}
-use Rattle.nx_left_on.proofs.lemmas.Example.{made-few, none-newest, one-remembered, second-hears}
+use Rattle.nx_left_on.proofs.lemmas.Example.{none-newest, one-remembered, second-hears}
 use Rattle.nx_left_on.proofs.lemmas.chains.Chains.{entries-append, entries_on}
 use Rattle.nx_left_on.proofs.lemmas.chains.Links.{all-back, put-append}
 
@@ -200,7 +201,7 @@ few-between later before behind entry named made same =
       ap length parts ∙ length-append put (entries_on Zero (all_put rest)),
       here,
       ap length later.judged ∙ length-append later.earlier (later.copy ∷ later.later),
-      made-few known later.earlier,
+      made_few known later.earlier,
       sym (length-append put (entries_made known later.earlier)) ∙ ap length made
           ∙ length-append before (entry ∷ behind),
     )
@@ -346,7 +347,7 @@ few-at-first before between after first later e none named again =
       between-count 199,
       ap length e ∙ length-append before (first ∷ (between ++ later ∷ after)),
       length-append between (later ∷ after),
-      made-few made between,
+      made_few made between,
     )
 
 -- an entry is 66 hours old or more at this moment

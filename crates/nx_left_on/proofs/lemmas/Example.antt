@@ -37,7 +37,7 @@ use Rattle.nx_copies.specs.copies.FoundCopies.{open_so_far, tag, tagged_copies}
 use Rattle.nx_copies.specs.copies.InTurn.{PrintAllToEnd, PrintsInTurn}
 use Rattle.nx_receiver.specs.air_file_runs.Listen.{events_on, given_by}
 use Rattle.nx_copies.specs.copies.Log.{HasPrinted, IsEntry, PrintsToEnd}
-use Rattle.nx_copies.specs.copies.Printing.{entries_made, entry_made, entry_of, if_printed, is_entered}
+use Rattle.nx_copies.specs.copies.Printing.{entries_made, entry_of, if_printed}
 use Rattle.nx_copies.specs.copies.Printing.{is_printed, printed_copies}
 use Rattle.nx_copies.specs.copies.Shares.{MarkedCopy, Starts, copies_on, marked, start_on}
 use Rattle.nx_promises.proofs.lemmas.chain.Alone.{found-none, printed-alone}
@@ -46,6 +46,7 @@ use Rattle.nx_promises.proofs.lemmas.examples.AirFile.{bits, inside, one-sending
 use Rattle.nx_promises.proofs.lemmas.examples.Emission.{alone, cut_is, events, events_are}
 use Rattle.nx_promises.proofs.lemmas.examples.Emission.{first_bits, found}
 use Rattle.nx_promises.proofs.lemmas.examples.Emission.{one_found, one_in, sent_there, stands_is}
+use Rattle.nx_promises.proofs.lemmas.examples.Repeats.{made_few}
 use Rattle.nx_promises.proofs.lemmas.examples.Worked.{damaged_computed}
 use Rattle.nx_promises.proofs.lemmas.examples.WorkedLog.{all_selected, log_is}
 use Rattle.nx_promises.proofs.lemmas.listening.ElementLines.{events-lines, events-others}
@@ -526,19 +527,6 @@ is-first = record {
   hears = first-hears;
 }
 
--- copies make no more entries than there are of them
-pub made-few : (entries : List MemoryEntry) (copies : List TaggedCopy)
-    → length (entries_made entries copies) ≤ length copies
-unfolding entries_made entry_made
-made-few entries [] = omega arith
-made-few entries (copy ∷ copies) =
-    let rest = made-few (entries ++ entry_made entries copy) copies in
-    elim (is_entered entries copy) as (λ b. length (cond b (entry_of copy ∷ []) []
-    ++ entries_made (entries ++ entry_made entries copy) copies) ≤ length (copy ∷ copies)) [
-      | true ↦ omega arith
-      | false ↦ omega arith
-    ]
-
 -- the one copy has ended
 has-ended : (starts : Starts) (lines : List Line) (n : ℕ) → Hears starts lines n
     → HasEndedAt (events_on Zero lines) 1189
@@ -683,7 +671,7 @@ module _ (n : ℕ) (is : IsSecond n) where
             (copies_in Zero later.watch ++ all_copies Zero later.after),
         length-append (copies_in Zero later.watch) (all_copies Zero later.after),
         ap length later.judged ∙ length-append later.earlier (later.copy ∷ later.later),
-        made-few (later.watch.starts.entries Zero) later.earlier,
+        made_few (later.watch.starts.entries Zero) later.earlier,
         sym (length-append put (entries_made (later.watch.starts.entries Zero) later.earlier))
             ∙ ap length made ∙ length-append before (entry ∷ behind),
       )

@@ -1,17 +1,15 @@
 -- What of a list that stands in turn was entered before one of its entries.
 use Rattle.std.proofs.Common.{◌≡◌, ℕ, ◌+◌, ◌-◌, ◌<◌, ◌≤◌, zero, suc, true, false, ◌&&◌, ◌||◌, List}
-use Rattle.std.proofs.Common.{[], ◌∷◌, ◌++◌, length, take, drop, get_or, ltb, Option, Some, None}
+use Rattle.std.proofs.Common.{[], ◌∷◌, ◌++◌, length, take, get_or, ltb, Option, Some, None}
 use Rattle.std.proofs.Common.{refl, sym, ap, ◌∙◌, subst, arith}
 use Rattle.std.specs.List.{All}
 use Rattle.std.proofs.lemmas.Bool.{le-ltb}
-use Rattle.std.proofs.lemmas.List.{take_more, length-take}
 use Rattle.std.proofs.lemmas.List.Elements.{All-nil, All-cons, All-head, All-get_or, All-tail}
-use Rattle.nx_code.specs.Lists.{last_of}
 use Rattle.nx_envelope.specs.declared.identity.Identity.{Identity}
 use Rattle.nx_envelope.specs.Identity.{same_identity}
 use Rattle.nx_memory.specs.declared.memories.entry.MemoryEntry.{MemoryEntry}
 use Rattle.nx_memory.specs.Content.{IsLater, AreInTurn, IsContent}
-use Rattle.nx_memory.specs.Memory.{most_entries, seconds_known, newest_moment, content_after}
+use Rattle.nx_memory.specs.Memory.{seconds_known, newest_moment}
 use Rattle.nx_memory.specs.Memory.{is_recent, is_known, entry_at}
 use Rattle.nx_memory.proofs.lemmas.Content.{newest_behind}
 
@@ -82,20 +80,6 @@ pub unknown-held : (content held : List MemoryEntry) (k : ℕ) (entry : MemoryEn
     → IsNext content held k entry → is_known entry.identity entry.moment held ≡ false
 unknown-held content held k entry is =
     unknown_within held entry (later_than_held content held k entry is)
-
-pub held-more : (content held : List MemoryEntry) (k : ℕ) (entry : MemoryEntry)
-    → IsNext content held k entry
-    → content_after held entry.identity entry.moment ≡ take (k + 1) content
-held-more content held k entry is =
-    let more : take (k + 1) content ≡ held ++ entry ∷ [] =
-    take_more content k entry is.within
-    ∙ ap (λ (it : MemoryEntry). take k content ++ it ∷ []) (sym is.here)
-    ∙ ap (λ (them : List MemoryEntry). them ++ entry ∷ []) (sym is.before) in
-    let bounded = is.content.bounded in
-    let none : length (take (k + 1) content) - most_entries ≡ 0 =
-    omega (arith, length-take (k + 1) content) in
-    ap (λ (it : List MemoryEntry). last_of most_entries it) (sym more)
-    ∙ ap (λ (n : ℕ). drop n (take (k + 1) content)) none
 
 -- what is added where an entry stands at a place of a list
 abbrev pub one_of : Option (Identity × ℕ) → List MemoryEntry

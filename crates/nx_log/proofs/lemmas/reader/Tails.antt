@@ -7,7 +7,7 @@ use Rattle.std.proofs.lemmas.List.Sums.{sum_by-append}
 use Rattle.std.proofs.lemmas.List.{take-append-le, take_all, nil_from_length}
 use Rattle.nx_code.specs.Reading.{newline, space}
 use Rattle.nx_log.specs.Reading.{IsBlank, IsGap, IsInReach, IsNoBracket, TornBegins, line_behind, reach_behind}
-use Rattle.nx_log.specs.private.Standing.{CanTear, StaysGap, IsSomeTail, StandsAs, StandsSomehow, TellsLine, torn_behind, torn_reach_behind, with_blank, with_other, with_torn}
+use Rattle.nx_log.specs.private.Standing.{CanTear, StaysGap, IsSomeTail, StandsAs, StandsSomehow, TellsLine, torn_behind, torn_reach_behind, with_blank, with_torn}
 use Rattle.nx_log.specs.declared.entries.tail.Tail.{Tail}
 use Rattle.nx_log.specs.declared.entries.tail.Shape.{Shape}
 use Rattle.nx_log.specs.declared.entries.tail.Shape.TheVariants as shapes
@@ -38,11 +38,6 @@ pub same_line : (xs : List ℕ) (z : ℕ) → z ≢ newline → line_behind (xs 
 same_line xs z other =
     ap (λ n. n + 1) (sum_by-append (λ byte. cond (byte == newline) 1 0) xs (z ∷ [])
     ∙ omega (arith, same_count z other))
-
--- and a newline ends one
-pub next_line_is : (xs : List ℕ) → line_behind (xs ++ newline ∷ []) ≡ line_behind xs + 1
-next_line_is xs =
-    ap (λ n. n + 1) (sum_by-append (λ byte. cond (byte == newline) 1 0) xs (newline ∷ []))
 
 -- ---- where the torn bytes of a tail begin
 
@@ -357,29 +352,6 @@ goes_on_blank tail reach byte before front bytes gap blank other s =
       },
     )
 
-pub goes_on_other : (tail : Tail) (reach byte : ℕ) (before front bytes : List ℕ)
-    → tail.shape ≡ shapes.Nothing → ¬ IsBlank byte → byte ≢ 91
-    → StandsSomehow tail before front reach bytes
-    → StandsSomehow (with_other tail) before front reach (bytes ++ byte ∷ [])
-goes_on_other tail reach byte before front bytes gap not_blank other s =
-    let n = subst (λ shape. StandsAs shape tail reach bytes s.0) gap s.1.stands in (
-      None,
-      record {
-        no_bracket = All-push IsNoBracket bytes byte s.1.no_bracket other;
-        stands = (
-          refl,
-          record {
-            byte = byte;
-            is = ap (λ l. l ++ byte ∷ []) n.0;
-            not_blank = not_blank;
-            reach_is = ap (λ k. k - 1) n.2;
-            torn_is = ap (λ k. k - 1) n.3;
-          },
-        );
-        tells = tells_none tail.is_torn tail (with_other tail) before front s.0 refl s.1.tells;
-      },
-    )
-
 -- ---- a byte that goes on with the gap
 
 blank_gap : (shape : Shape) (byte : ℕ) → StaysGap shape byte
@@ -389,24 +361,9 @@ blank_gap shapes.Blanks byte h = inr refl
 blank_gap shapes.One byte h = absurd h
 blank_gap shapes.Torn byte h = absurd h
 
-pub other_gap : (shape : Shape) (byte : ℕ) → StaysGap shape byte → ¬ IsBlank byte
-    → shape ≡ shapes.Nothing
-other_gap shapes.Nothing byte h other = refl
-other_gap shapes.Blanks byte h other = absurd (other h)
-other_gap shapes.One byte h other = absurd h
-other_gap shapes.Torn byte h other = absurd h
-
 pub gap_blank : (tail : Tail) (reach byte : ℕ) (before front bytes : List ℕ)
     → StaysGap tail.shape byte → IsBlank byte → byte ≢ 91
     → StandsSomehow tail before front reach bytes
     → StandsSomehow (with_blank tail byte) before front reach (bytes ++ byte ∷ [])
 gap_blank tail reach byte before front bytes stays blank other s =
     goes_on_blank tail reach byte before front bytes (blank_gap tail.shape byte stays) blank other s
-
-pub gap_other : (tail : Tail) (reach byte : ℕ) (before front bytes : List ℕ)
-    → StaysGap tail.shape byte → ¬ IsBlank byte → byte ≢ 91
-    → StandsSomehow tail before front reach bytes
-    → StandsSomehow (with_other tail) before front reach (bytes ++ byte ∷ [])
-gap_other tail reach byte before front bytes stays not_blank other s =
-    goes_on_other tail reach byte before front bytes
-    (other_gap tail.shape byte stays not_blank) not_blank other s

@@ -783,10 +783,6 @@ module _ {R W : Type 0} (query : Query) (form : Form) (d : Devices R W) (n : Not
       of false at_once PassedOver h =
           subst (λ b. SalvageRanOut query form d n b []) (sym at_once) (refl, reader, writer, told)
 
--- faults
-pub fault-of : {A : Type 0} (x y : LogFault) → ◌≡◌ {A = Result A LogFault} (Err x) (Err y) → x ≡ y
-fault-of x y e = cc
-
 pub memory-not-read : {A : Type 0} (error : AllocError)
     → ◌≡◌ {A = Result A LogFault} (Err (Memory error)) (Err Read) → ⊥
 memory-not-read error e = cc

@@ -5,8 +5,7 @@ use Rattle.std.specs.Prelude.{◌==◌}
 use Rattle.std.specs.List.{All}
 use Rattle.std.proofs.Math.Seq.{drop-append-add}
 use Rattle.std.proofs.lemmas.Bool.{cases_lt}
-use Rattle.std.proofs.lemmas.Bool.Decides.{Decides-eqb}
-use Rattle.std.proofs.lemmas.List.{drop-append-le, get_or-take, length-take-le, take-append-drop, take-append-le, take_all}
+use Rattle.std.proofs.lemmas.List.{drop-append-le, get_or-take, length-take-le, take-append-drop, take-append-le}
 use Rattle.std.proofs.lemmas.List.Elements.{All-append, All-cons, All-drop, All-from_get_or, All-nil}
 use Rattle.std.proofs.lemmas.List.Sums.{count_by-le-length, sum_by-append}
 use Rattle.memchr.specs.Find.{IsFirstByte, is_byte}
@@ -268,19 +267,3 @@ none-before bytes place found =
     omega (arith, less, length-take-le place bytes (omega (arith, found.0.high))) in
     subst IsNoBracket (sym (get_or-take place bytes k 0 below))
     (is-none bytes k (found.0.before k (omega arith) below)))
-
-pub none-found : (bytes : List ℕ) → IsFirstByte (is_byte 91) bytes None
-    → All IsNoBracket (take (length bytes) bytes)
-none-found bytes none =
-    subst (All IsNoBracket) (sym (take_all (length bytes) bytes (omega arith)))
-    (All-from_get_or IsNoBracket bytes 0 (λ k less.
-    is-none bytes k (none k (omega arith) less)))
-
-pub found-bracket : (bytes : List ℕ) (place : ℕ) → IsFirstByte (is_byte 91) bytes (Some place)
-    → place ≡ 0 → BeginsAnew bytes
-found-bracket [] place found first = absurd (omega (arith, found.0.high))
-found-bracket (b ∷ bytes) place found none =
-    let here : get_or (b ∷ bytes) place 0 ≡ 91 =
-    (Decides-eqb (get_or (b ∷ bytes) place 0) 91).0 found.1 in
-    let first : b ≡ 91 = sym (ap (λ k. get_or (b ∷ bytes) k 0) none) ∙ here in
-    (bytes, ap (λ h. h ∷ bytes) first)

@@ -1,12 +1,11 @@
 -- What is told, one notice more.
-use Rattle.std.proofs.Common.{◌≡◌, ℕ, ◌+◌, ◌<◌, List, [], ◌∷◌, ◌++◌, length}
+use Rattle.std.proofs.Common.{◌≡◌, ℕ, ◌+◌, List, [], ◌∷◌, ◌++◌, length}
 use Rattle.std.proofs.Common.{take, Option, Result, Ok, Err, inl, inr, refl, sym, ap}
 use Rattle.std.proofs.Common.{◌∙◌, subst, arith, append_assoc, append-nil, length-append}
 use Rattle.std.specs.Prelude.{IfErr, OnOk}
 use Rattle.std.specs.Io.KnownBytes.{Appends}
 use Rattle.std.proofs.KnownBytes.{Appends-trans}
 use Rattle.std.proofs.Math.Seq.{take-append-add}
-use Rattle.std.proofs.lemmas.List.{take-append-le}
 use Rattle.nx_fec.specs.Transfers.{CountedDevice, FailsOnce, WroteSome}
 use Rattle.nx_fec.specs.declared.fault.WriteFault.{WriteFault}
 use Rattle.nx_log.specs.Notices.{HaveTold, Notice, notice_text, notice_texts, notices_of}
@@ -17,19 +16,6 @@ texts_more [] one = append-nil (notice_text one)
 texts_more (first ∷ notices) one =
     ap (λ l. notice_text first ++ l) (texts_more notices one)
     ∙ sym (append_assoc (notice_text first) (notice_texts notices) (notice_text one))
-
--- nothing more is told once a write failed
-pub told-stopped : (old new : Option (List ℕ)) (failures : ℕ) (text more : List ℕ)
-    → 0 < failures → HaveTold (notices_of old new failures) text
-    → HaveTold (notices_of old new failures) (text ++ more)
-told-stopped old new failures text more some (inl h) = absurd (omega (arith, h.0, some))
-told-stopped old new failures text more some (inr h) =
-    inr (
-      h.0,
-      h.1,
-      omega (arith, h.2, length-append text more),
-      subst (Appends old new) (sym (take-append-le h.1 text more (omega (arith, h.2)))) h.3,
-    )
 
 -- and before that, what is written
 pub told-out : {N W : Type 0} (old mid new : Option (List ℕ)) (before : ℕ) (after : CountedDevice W)

@@ -26,11 +26,6 @@ pub last-known : (b x y : Bool) → b ≡ true → x ≡ y → x ≡ (b && y)
 last-known true x y a e = e
 last-known false x y a e = cc
 
--- an entry that is kept, and one that isn't
-pub kept-some : {T : Type 0} (b : Bool) (x : T) → b ≡ true → Some x ≡ (if b then Some x else None)
-kept-some true x e = refl
-kept-some false x e = cc
-
 pub kept-none : {T : Type 0} (b : Bool) (x : T) → b ≡ false → None ≡ (if b then Some x else None)
 kept-none true x e = cc
 kept-none false x e = refl

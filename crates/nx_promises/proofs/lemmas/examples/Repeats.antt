@@ -13,7 +13,7 @@ use Rattle.nx_copies.specs.copies.FoundCopies.{TaggedCopy}
 use Rattle.nx_copies.proofs.lemmas.once.Repeats.{none_live}
 
 -- each copy makes one entry at most
-made_few : (entries : List MemoryEntry) (copies : List TaggedCopy)
+pub made_few : (entries : List MemoryEntry) (copies : List TaggedCopy)
     → length (entries_made entries copies) ≤ length copies
 unfolding entries_made entry_made
 made_few entries [] = omega arith

@@ -6,7 +6,7 @@ use Rattle.std.proofs.Common.{length, map, slice_get, refl, sym, ap, ◌∙◌, 
 use Rattle.std.proofs.Common.{append-nil, lit<, lit≤}
 use Rattle.std.specs.Prelude.{codes}
 use Rattle.std.specs.List.{All}
-use Rattle.std.proofs.lemmas.Bool.{agree_below, agree_below_at, eq-eqb, eqb-true}
+use Rattle.std.proofs.lemmas.Bool.{agree_below, agree_below_at, and_parts, eq-eqb, eqb-true}
 use Rattle.std.proofs.lemmas.List.Elements.{All-cons, All-contains, All-nil}
 use Rattle.std.proofs.lemmas.Option.{slice_get_within}
 use Rattle.nx_code.specs.Reading.{Reception, character_of, combination, idle, lost}
@@ -229,10 +229,6 @@ either : (a b : Bool) → (a || b) ≡ true → (a ≡ true) ⊎ (b ≡ true)
 either true b is = inl refl
 either false b is = inr is
 
-both : (a b : Bool) → (a && b) ≡ true → (a ≡ true) × (b ≡ true)
-both true b is = (refl, is)
-both false b is = cc
-
 came : (sent : List ℕ) (first second : List Reception) → covers sent first second ≡ true
     → CameThrough sent (first ∷ second ∷ [])
 unfolding covers
@@ -240,7 +236,7 @@ came [] first second is index number there = let contra : None ≡ Some number =
 came (n ∷ sent) [] second is index number there = cc
 came (n ∷ sent) (x ∷ first) [] is index number there = cc
 came (n ∷ sent) (x ∷ first) (y ∷ second) is zero number there =
-    let here = both (is_taken n x || is_taken n y) (covers sent first second) is in
+    let here = and_parts (is_taken n x || is_taken n y) (covers sent first second) is in
     let same : n ≡ number = cc in
     elim (either (is_taken n x) (is_taken n y) here.0) [
       | inl a ↦ inl (ap Some (taken-is n x a ∙ ap combination same))
@@ -248,7 +244,7 @@ came (n ∷ sent) (x ∷ first) (y ∷ second) is zero number there =
     ]
 came (n ∷ sent) (x ∷ first) (y ∷ second) is (suc index) number there =
     came sent first second
-    (both (is_taken n x || is_taken n y) (covers sent first second) is).1 index number there
+    (and_parts (is_taken n x || is_taken n y) (covers sent first second) is).1 index number there
 
 record Copies : Type 0 where
   first_place : place_in (text_by Dx (lock_word twice_heard) 28 229) 8 ≡ 517
@@ -329,9 +325,6 @@ one_together =
       few_positions = omega (arith, short);
       runs_on = nothing_behind one.positions short;
     }
-
-digit-two : 7 * (2 * (72 + 27 + 36 + 10) + 5 - 96) + 6 ≡ 1399
-digit-two = refl
 
 two_together : IsOne two
 unfolding example_numbers

@@ -2,7 +2,7 @@
 -- it.
 use Rattle.std.proofs.Common.{◌≡◌, ℕ, zero, suc, ◌+◌, Bool, true, false, cond, Option, Some}
 use Rattle.std.proofs.Common.{None, List, [], ◌∷◌, ◌++◌, slice_get, refl, sym, ap, ◌∙◌, subst, arith}
-use Rattle.std.proofs.Common.{if◌then◌else◌, length, nat_lt}
+use Rattle.std.proofs.Common.{length, nat_lt}
 use Rattle.std.specs.Prelude.{slice_set}
 use Rattle.std.specs.List.{AllByRecursion, position_or_len}
 use Rattle.std.specs.Option.{option_map_or}
@@ -11,14 +11,14 @@ use Rattle.nx_envelope.specs.Identity.{same_identity}
 use Rattle.nx_envelope.specs.declared.identity.Identity.{Identity}
 use Rattle.nx_combine.specs.CombinedPrinting.{if_printed_combined, is_printed_combined}
 use Rattle.nx_combine.specs.CopyPositions.{HeardCopy}
-use Rattle.nx_combine.specs.Families.{CombinedCopy, Family, begun_by, families_after}
+use Rattle.nx_combine.specs.Families.{Family, begun_by, families_after}
 use Rattle.nx_combine.specs.private.Families.{combined_copy}
 use Rattle.nx_combine.specs.Families.{has_family, joined_at, joined_by, last_index}
 use Rattle.nx_combine.specs.private.Families.{index_joined}
 use Rattle.nx_combine.specs.Families.{families_after_holding}
 use Rattle.nx_combine.specs.Judging.{Judged, all_printed, judged_after, judged_behind}
 use Rattle.nx_combine.specs.Laws.{IsWholeCopy, bears, is_named}
-use Rattle.nx_combine.proofs.lemmas.Once.{named_as}
+use Rattle.nx_combine.proofs.lemmas.Once.{all_if, named_as}
 use Rattle.nx_promises.specs.laws.Together.{NoneBears}
 
 -- the family is of another identity
@@ -92,11 +92,6 @@ none_begun identity so_far copies none empty =
     ap (λ n. cond (nat_lt n (length families)) (Some n) None) (last-none_if identity families all)
     ∙ ap (λ b. cond b (Some (length families)) None)
     (le-ltb (length families) (length families) (omega arith))
-
-all_if : (P : CombinedCopy → Type 0) (one : CombinedCopy) (rest : List CombinedCopy) (b : Bool)
-    → P one → AllByRecursion P rest → AllByRecursion P ((if b then one ∷ [] else []) ++ rest)
-all_if P one rest true here behind = (here, behind)
-all_if P one rest false here behind = behind
 
 -- and nothing that is printed of them is a whole copy of it
 pub none_whole : (identity : Identity) (so_far : Judged) (copies : List HeardCopy)

@@ -142,12 +142,12 @@ tagged-from m first events (copy ∷ copies) low all =
 
 -- ---- the moment at which all receivers of a run start
 
-later-first : (one other : Option ℕ) → unwrap_or one 0 ≤ unwrap_or (later_of one other) 0
+pub later-first : (one other : Option ℕ) → unwrap_or one 0 ≤ unwrap_or (later_of one other) 0
 later-first None other = omega arith
 later-first (Some m) None = omega arith
 later-first (Some m) (Some n) = le-max_left m n
 
-later-second : (one other : Option ℕ) → unwrap_or other 0 ≤ unwrap_or (later_of one other) 0
+pub later-second : (one other : Option ℕ) → unwrap_or other 0 ≤ unwrap_or (later_of one other) 0
 later-second None other = omega arith
 later-second (Some m) None = omega arith
 later-second (Some m) (Some n) = le-max_right m n

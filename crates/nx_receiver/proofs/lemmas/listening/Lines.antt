@@ -155,18 +155,6 @@ heard-elements starts old new lines mark channel bits log (Err why) e h heard no
   none.2,
 )
 
--- what is taken is the line that its kind says
-pub taken-as : {R : Type 0} (kind : ReceiverKind R) (starts : Starts)
-    (old new : ListeningOver R) (lines : List Line) (line is : Line) (bytes : List ℕ)
-    (result : Result (Unit {0}) LineRefusal) → line ≡ is
-    → MatchResult result (λ _. IsListeningBy kind starts new (lines ++ is ∷ []) bytes)
-    (λ why. RefusesLine starts lines is why × (new ≡ old))
-    → MatchResult result (λ _. IsListeningBy kind starts new (lines ++ line ∷ []) bytes)
-    (λ why. RefusesLine starts lines line why × (new ≡ old))
-taken-as kind starts old new lines line is bytes result same h =
-    subst (λ l. MatchResult result (λ _. IsListeningBy kind starts new (lines ++ l ∷ []) bytes)
-    (λ why. RefusesLine starts lines l why × (new ≡ old))) (sym same) h
-
 -- a line gives the command that its kind says
 pub kind-gives : (line : Line) (kind : LineKind) (channel : Channel) (given : Command)
     → kind_of line ≡ kind

@@ -13,7 +13,6 @@ use Rattle.nx_copies.specs.Events.{Event, Setting, Start, elements_among, elemen
 use Rattle.nx_copies.specs.Events.{setting_after_all, settings, elements}
 use Rattle.nx_copies.specs.copies.Log.{Printing}
 use Rattle.nx_receiver.specs.ChannelReceiver.{AwaitsFinish, HandsOutNoneBeforeBy}
-use Rattle.nx_receiver.specs.private.ChannelReceiver.{FinishesNextBy}
 use Rattle.nx_receiver.specs.ChannelReceiver.{HearsUpToBy, NothingAwaited, ReceiverKind}
 use Rattle.nx_receiver.specs.Receiver.{HandsOutNoneBefore, Receiving, Stands, StandsOver}
 use Rattle.nx_receiver.specs.private.Awaiting.{Awaits, AwaitsOver, HearsUpTo}
@@ -36,15 +35,6 @@ pub record Fed {R : Type 0} (kind : ReceiverKind R) (old now : R) (bits : List B
       → kind.stands start old history log
       → kind.stands start now (history ++ elements (take at bits)) log
   pub before : HandsOutNoneBeforeBy kind old bits at
-
-pub fed_none : {R : Type 0} (kind : ReceiverKind R) (old : R) (bits : List Bool)
-    → Fed kind old old bits 0
-fed_none kind old bits = record {
-  within = omega arith;
-  stands = λ start history log s. subst (λ events. kind.stands start old events log)
-      (sym (append-nil history)) s;
-  before = λ start history log s k lt. absurd (omega arith);
-}
 
 -- a hearer heard these elements, and what is over with the last of them is awaited
 pub awaits_on : {M : Type 0} (content : M → List MemoryEntry) (old : Receiving M)
@@ -199,43 +189,6 @@ printed_then printing start history log packed from n m first second k lt =
           ∙ ap (λ i. history ++ elements (take i (drop from packed))) sum)
           (second j (omega arith))
     ]
-
--- what was over was finished
-pub finished_now : {R Over : Type 0} (kind : ReceiverKind R) (awaits : AwaitsFinish R Over)
-    (old new : R) (over : Over) (bits : List Bool) (copies : List TaggedCopy)
-    → ((start : Start) (history : List Event) (log : List TaggedCopy)
-    → awaits start old history log (Some over)
-    → kind.stands start new history (log ++ copies))
-    → FinishesNextBy kind awaits old new over bits 0 copies
-finished_now kind awaits old new over bits copies finishes = record {
-  stands = λ start history log a.
-      subst (λ events. kind.stands start new events (log ++ copies))
-      (sym (append-nil history)) (finishes start history log a);
-  first = λ start history log a k lt. absurd (omega arith);
-}
-
--- it brought nothing, and then elements were heard
-pub finished_then : {R Over : Type 0} (kind : ReceiverKind R) (awaits : AwaitsFinish R Over)
-    (old mid new : R) (over : Over) (bits : List Bool) (count : ℕ) (none copies : List TaggedCopy)
-    → ((start : Start) (history : List Event) (log : List TaggedCopy)
-    → awaits start old history log (Some over)
-    → kind.stands start mid history (log ++ none))
-    → none ≡ []
-    → ((start : Start) (history : List Event) (log : List TaggedCopy)
-    → kind.stands start mid history log
-    → kind.stands start new (history ++ elements (take count bits)) (log ++ copies))
-    → HandsOutNoneBeforeBy kind mid bits count
-    → FinishesNextBy kind awaits old new over bits count copies
-finished_then kind awaits old mid new over bits count none copies finishes nothing hears before =
-    let stands : (start : Start) (history : List Event) (log : List TaggedCopy)
-    → awaits start old history log (Some over) → kind.stands start mid history log =
-    λ start history log a. subst (λ l. kind.stands start mid history l)
-    (ap (λ l. log ++ l) nothing ∙ append-nil log) (finishes start history log a) in
-    record {
-      stands = λ start history log a. hears start history log (stands start history log a);
-      first = λ start history log a k lt.
-          before start history log (stands start history log a) k lt;
-    }
 
 -- So many more of the elements were heard behind those that were fed; what is over with the last of
 -- them awaits to be finished.

@@ -20,7 +20,7 @@ few_picked p first (suc n) =
       | false ↦ omega (arith, few)
     ]
 
-few_rising : (letters : _) → length (rising letters) ≤ 26
+pub few_rising : (letters : _) → length (rising letters) ≤ 26
 unfolding rising
 few_rising letters = few_picked (set.contains letters) 65 26
 

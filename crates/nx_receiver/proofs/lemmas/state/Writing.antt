@@ -2,7 +2,6 @@
 use Rattle.std.proofs.Common.{◌≡◌, ℕ, ◌+◌, zero, suc, Some, None, List, [], ◌∷◌, ◌++◌, take, drop}
 use Rattle.std.proofs.Common.{slice_get, Option, OnOk, IfErr, Result, Ok, Err, MatchResult, refl}
 use Rattle.std.proofs.Common.{sym, ap, ◌∙◌, subst, take-append-drop, arith}
-use Rattle.std.proofs.KnownBytes.{Appends-nil}
 use Rattle.std.specs.Io.KnownBytes.{Appends}
 use Rattle.nx_code.specs.Reading.{newline}
 use Rattle.nx_fec.specs.air_files.LineRuns.{HasGiven, Waiting}
@@ -16,7 +15,8 @@ use Rattle.nx_receiver.specs.air_file_runs.State.{ended_lines, state_bytes}
 use Rattle.nx_receiver.proofs.lemmas.state.Splits.{ended-append, ended-one}
 
 -- the lines up to and with the next
-take-next : (lines : List (List ℕ)) (place : ℕ) (line : List ℕ) → slice_get lines place ≡ Some line
+pub take-next : (lines : List (List ℕ)) (place : ℕ) (line : List ℕ)
+    → slice_get lines place ≡ Some line
     → take (suc place) lines ≡ take place lines ++ line ∷ []
 take-next [] place line e = cc
 take-next (first ∷ lines) zero line e = let same : first ≡ line = cc in
@@ -85,12 +85,3 @@ sent-some (Err fault) old new batch given bytes e h =
 pub state_bytes-is : (states : SavedStates) → state_bytes states ≡ ended_lines (text_2 states)
 unfolding state_bytes
 state_bytes-is states = refl
-
--- nothing was given at first
-pub given-none : (old : Option (List ℕ)) (batch : Waiting) → batch.bytes ≡ [] → batch.sent ≡ 0
-    → HasGiven old old batch []
-given-none old batch empty none = record {
-  done = [];
-  written = record { counted = none; appended = Appends-nil old };
-  whole = sym empty;
-}

@@ -1,16 +1,13 @@
 -- One more line, and what it does.
-use Rattle.std.proofs.Common.{◌≡◌, ℕ, ◌+◌, ◌-◌, ◌≤◌, ◌<◌, suc, Bool, true, false, not, cond, ◌&&◌}
-use Rattle.std.proofs.Common.{List, [], ◌∷◌, ◌++◌, length, take, get_or, Option, Some, None}
+use Rattle.std.proofs.Common.{◌≡◌, ℕ, ◌+◌, ◌-◌, ◌≤◌, ◌<◌, suc, Bool, true, false, not, cond}
+use Rattle.std.proofs.Common.{List, [], ◌∷◌, ◌++◌, length, take, Option, Some, None}
 use Rattle.std.proofs.Common.{Result, Ok, Err}
 use Rattle.std.proofs.Common.{nat_lt, nat_le, refl, sym, ap, ap₂, ◌∙◌, subst, append_assoc, append-nil}
 use Rattle.std.proofs.Common.{arith, length-append, zero-add, add-zero}
 use Rattle.std.specs.List.{count_by, position_from}
-use Rattle.std.specs.Prelude.{OnErr, OnOk}
 use Rattle.std.specs.Option.{is_some}
-use Rattle.std.proofs.Math.Seq.{get_or-append_seam}
 use Rattle.std.proofs.lemmas.Bool.{and_from, and_left, and_right, le-leb, leb-false, leb-true}
 use Rattle.std.proofs.lemmas.Bool.Decides.{nat_tests}
-use Rattle.std.proofs.lemmas.List.{take-append-le, take_all}
 use Rattle.std.proofs.lemmas.List.Sums.{sum_by-append}
 use Rattle.nx_envelope.specs.Moment.{last_moment}
 use Rattle.nx_memory.specs.Memory.{seconds_known}
@@ -20,8 +17,7 @@ use Rattle.nx_receiver.specs.declared.fault.MomentFault.TheVariants.{Back, Range
 use Rattle.nx_fec.specs.air_files.AirFile.{Line, moment, elements, refuse_station, accept_station}
 use Rattle.nx_fec.specs.air_files.AirFile.{refuse_subject, accept_subject}
 use Rattle.nx_fec.specs.air_files.Scanner.{kind_of}
-use Rattle.nx_fec.specs.declared.air_files.channel.Channel.{Channel}
-use Rattle.nx_fec.specs.declared.air_files.lines.LineKind.TheVariants.{Elements, Moment}
+use Rattle.nx_fec.specs.declared.air_files.lines.LineKind.TheVariants.{Moment}
 use Rattle.nx_watch.specs.Acting.{acts, effects, given}
 use Rattle.nx_watch.specs.Acting.{in_force, is_far_back}
 use Rattle.nx_watch.specs.Acting.{moment_said, moments_behind, went_far_back}
@@ -29,59 +25,17 @@ use Rattle.nx_watch.specs.declared.lines.line_effects.StartMoments.{StartMoments
 use Rattle.nx_watch.specs.declared.lines.line_effects.LineEffects.{LineEffects}
 use Rattle.nx_watch.specs.declared.lines.line_effects.Effect.{Effect}
 use Rattle.nx_watch.specs.declared.lines.line_effects.Effect.TheVariants.{Acts, Nothing, Ends}
-use Rattle.nx_watch.specs.declared.lines.no_effect.NoEffect.TheVariants.{PastLast}
 use Rattle.nx_watch.specs.private.LineRun.{MayAct}
 use Rattle.nx_watch.specs.declared.lines.refusal.Refusal.{Refusal}
 use Rattle.nx_watch.specs.declared.lines.refusal.Refusal.TheVariants as refusal
 use Rattle.nx_watch.specs.private.Effects.{is_acting, IsAnswer, IsEffect, IsKept, KeepsMoments}
 use Rattle.nx_watch.specs.private.Effects.{SameCounts, lines_taken, said_behind, sets}
-use Rattle.nx_watch.proofs.lemmas.lines.Starting.{moments_behind-more, more-than-none}
+use Rattle.nx_watch.proofs.lemmas.lines.Starting.{moments_behind-more}
 
 -- ---- one more moment
 
 pub said-in : (n : ℕ) → n ≤ last_moment → moment_said (Some (moment n)) ≡ n ∷ []
 said-in n h = ap (λ (b : Bool). cond b (n ∷ []) []) (le-leb n last_moment h)
-
--- the list has one more than these, and it is the last
-went-at : (first : ℕ) (moments : List ℕ) (n count : ℕ) → count ≡ length moments + 1
-    → (nat_lt 0 count
-    && is_far_back first (take (count - 1) (moments ++ n ∷ []))
-    (get_or (moments ++ n ∷ []) (count - 1) 0))
-    ≡ is_far_back first moments n
-went-at first moments n count h =
-    let at : count - 1 ≡ length moments = omega arith in
-    let some : nat_lt 0 count ≡ true = grind (arith, nat_tests) in
-    let front : take (length moments) (moments ++ n ∷ []) ≡ moments =
-    take-append-le (length moments) moments (n ∷ []) (omega arith)
-    ∙ take_all (length moments) moments (omega arith) in
-    let last : get_or (moments ++ n ∷ []) (length moments) 0 ≡ n =
-    get_or-append_seam moments n [] 0 in
-    ap (λ (b : Bool). b && is_far_back first (take (count - 1) (moments ++ n ∷ []))
-    (get_or (moments ++ n ∷ []) (count - 1) 0)) some
-    ∙ ap (λ k. is_far_back first (take k (moments ++ n ∷ [])) (get_or (moments ++ n ∷ []) k 0)) at
-    ∙ ap (λ l. is_far_back first l (get_or (moments ++ n ∷ []) (length moments) 0)) front
-    ∙ ap (λ m. is_far_back first moments m) last
-
-went-more : (first : ℕ) (moments : List ℕ) (n : ℕ)
-    → went_far_back first (moments ++ n ∷ []) ≡ is_far_back first moments n
-went-more first moments n =
-    went-at first moments n (length (moments ++ n ∷ [])) (length-append moments (n ∷ []))
-
-has-more : (moments : List ℕ) (n : ℕ) → nat_lt 0 (length (moments ++ n ∷ [])) ≡ true
-has-more moments n =
-    let some : length (moments ++ n ∷ []) ≡ length moments + 1 = length-append moments (n ∷ []) in
-    grind (arith, nat_tests)
-
--- a moment in range
-pub next-moment : (first : StartMoments) (moments : List ℕ) (kept now : LineEffects) (n : ℕ)
-    → KeepsMoments first moments kept → now.start ≡ kept.start → now.has_moment ≡ true
-    → now.went_far_back ≡ is_far_back first.newest moments n
-    → KeepsMoments first (moments ++ n ∷ []) now
-next-moment first moments kept now n k start has far = record {
-  start_is = start ∙ k.start_is;
-  has_moment = has ∙ sym (has-more moments n);
-  far_back = far ∙ sym (went-more first.newest moments n);
-}
 
 -- nothing changed in what is kept of moments
 pub keeps-on : (first : StartMoments) (moments : List ℕ) (old new : LineEffects)
@@ -133,29 +87,11 @@ taken-acts first moments (accept_station mark letter) h = (refl, refl)
 taken-acts first moments (refuse_subject mark letter) h = (ap not h, refl)
 taken-acts first moments (accept_subject mark letter) h = (refl, refl)
 
--- and not a moment that they refuse
-pub past-idle : (first : StartMoments) (moments : List ℕ) (n : ℕ) → last_moment < n
-    → IsEffect first moments (Some (moment n)) (Nothing PastLast)
-past-idle first moments n past =
-    let out : nat_le n last_moment ≡ false = grind (arith, nat_tests) in (
-      and_left _ _ out,
-      and_left _ _ (and_left _ _ out),
-      λ bytes before. past,
-    )
-
 pub back-idle : (first : ℕ) (moments : List ℕ) (n : ℕ) → n < in_force first moments
     → acts first moments (Some (moment n)) ≡ false
 back-idle first moments n back =
     let early : nat_le (in_force first moments) n ≡ false = grind (arith, nat_tests) in
     and_right _ _ early
-
-pub past-keeps : (first : StartMoments) (moments : List ℕ) (n : ℕ) (kept : LineEffects)
-    → last_moment < n → KeepsMoments first moments kept
-    → KeepsMoments first (moments ++ moment_said (Some (moment n))) kept
-past-keeps first moments n kept past k =
-    let out : nat_le n last_moment ≡ false = grind (arith, nat_tests) in
-    subst (λ l. KeepsMoments first l kept)
-    (sym (ap (λ (b : Bool). moments ++ cond b (n ∷ []) []) out ∙ append-nil moments)) k
 
 refused-idle : (first : ℕ) (moments : List ℕ) (n : ℕ) (fault : MomentFault)
     → Refuses (in_force first moments) n fault → acts first moments (Some (moment n)) ≡ false
@@ -193,30 +129,6 @@ moment-kind (accept_station mark letter) n h = cc
 moment-kind (refuse_subject mark letter) n h = cc
 moment-kind (accept_subject mark letter) n h = cc
 
--- a line doesn't act where the receivers refuse it
-pub idle-refused : (answer : Result (Unit {0}) Refusal) (acting : Bool) (P : Type 0)
-    → OnOk answer (acting ≡ true) → OnErr answer P → acting ≡ false → P
-idle-refused (Ok taken) acting P acts kept idle = let both : false ≡ true = sym idle ∙ acts in cc
-idle-refused (Err why) acting P acts kept idle = kept
-
--- no moment is set behind one that was said
-pub unset-some : (first : StartMoments) (moments : List ℕ) (line : Line) (kept : LineEffects)
-    → kept.has_moment ≡ true → KeepsMoments first moments kept
-    → sets first moments (Some line) ≡ false
-unset-some first moments (moment n) kept some k = refl
-unset-some first moments (elements mark bits) kept some k =
-    ap (λ b. not b && nat_le (given first) last_moment) (sym k.has_moment ∙ some)
-unset-some first moments (refuse_station mark letter) kept some k = refl
-unset-some first moments (accept_station mark letter) kept some k = refl
-unset-some first moments (refuse_subject mark letter) kept some k = refl
-unset-some first moments (accept_subject mark letter) kept some k = refl
-
-pub none-said : (first : StartMoments) (moments : List ℕ) (kept : LineEffects)
-    → kept.has_moment ≡ false → KeepsMoments first moments kept → moments ≡ []
-none-said first [] kept none k = refl
-none-said first (m ∷ moments) kept none k =
-    let some : false ≡ true = sym none ∙ k.has_moment ∙ more-than-none (length moments) in cc
-
 -- a line that doesn't act sets none
 pub idle-unset : (first : StartMoments) (moments : List ℕ) (line : Option Line)
     → acts first.newest moments line ≡ false → sets first moments line ≡ false
@@ -227,16 +139,6 @@ idle-unset first moments (Some (refuse_station mark letter)) h = refl
 idle-unset first moments (Some (accept_station mark letter)) h = refl
 idle-unset first moments (Some (refuse_subject mark letter)) h = refl
 idle-unset first moments (Some (accept_subject mark letter)) h = refl
-
--- a line that is one of elements
-pub elements-kind : (line : Line) (mark : Option Channel) → kind_of line ≡ Elements mark
-    → (mark : Option Channel) × (bits : List Bool) × (line ≡ elements mark bits)
-elements-kind (elements other bits) mark h = (other, bits, refl)
-elements-kind (moment m) mark h = cc
-elements-kind (refuse_station other letter) mark h = cc
-elements-kind (accept_station other letter) mark h = cc
-elements-kind (refuse_subject other letter) mark h = cc
-elements-kind (accept_subject other letter) mark h = cc
 
 -- ---- one more line
 

@@ -3,7 +3,7 @@ use Rattle.std.proofs.Common.{◌≡◌, ◌∙◌, ◌+◌, ◌++◌, ℕ, Bool
 use Rattle.std.proofs.Common.{append-nil, append_assoc, arith, drop, length, length-append, take}
 use Rattle.std.proofs.Common.{take-append-drop}
 use Rattle.std.specs.Io.KnownBytes.{Consumes}
-use Rattle.nx_fec.specs.air_files.AirFile.{IsLine, Line}
+use Rattle.nx_fec.specs.air_files.AirFile.{Line}
 use Rattle.nx_fec.specs.air_files.Scanner.{elements_kept, kind_of, line_with}
 use Rattle.nx_fec.specs.declared.air_files.lines.LineKind.{LineKind}
 use Rattle.nx_receiver.proofs.lemmas.listening.Lines.{of-kind}
@@ -17,15 +17,7 @@ use Rattle.nx_watch.specs.declared.lines.line_effects.StartMoments.{StartMoments
 use Rattle.nx_watch.proofs.lemmas.lines.Scanning.{Parts-lines, parts}
 use Rattle.nx_watch.specs.declared.lines.any_lines.AnyLine.TheVariants.{Known}
 
--- a line that says so says so
--- it is a line of an air file
-pub said-good : (latest : Option Line) (said : LineKind) (bits : List Bool)
-    → SaysLine latest (Known said) → bits ≡ elements_kept latest → IsLine (line_with said bits)
-said-good None said bits h are = absurd h
-said-good (Some line) said bits h are =
-    subst IsLine (of-kind line said said (sym h.1) refl ∙ ap (line_with said) (sym are)) h.0
-
--- and the one that is said
+-- a line that says so is the one that is said
 pub said-line : (latest : Option Line) (said : LineKind) (bits : List Bool) (line : Line)
     → SaysLine latest (Known said) → bits ≡ elements_kept latest → latest ≡ Some line
     → line ≡ line_with said bits

@@ -1,8 +1,8 @@
 -- The receivers of a watch take lines, and their entries are kept.
 use Rattle.std.proofs.Common.{◌≡◌, ℕ, ◌≤◌, Bool, true, false, cond, List, [], ◌∷◌, ◌++◌}
-use Rattle.std.proofs.Common.{map, max, Option, Some, None, Result, Ok, Err, refl, sym, ◌∙◌, ap, subst, arith}
+use Rattle.std.proofs.Common.{map, max, Option, Some, Result, Ok, Err, refl, sym, ◌∙◌, ap, subst, arith}
 use Rattle.std.proofs.Common.{append-nil}
-use Rattle.std.specs.Prelude.{IfSome, MatchResult}
+use Rattle.std.specs.Prelude.{MatchResult}
 use Rattle.std.specs.List.{All, AllZip, concat}
 use Rattle.std.proofs.lemmas.List.{map-append}
 use Rattle.std.proofs.lemmas.List.Concat.{flat_map-append}
@@ -20,14 +20,10 @@ use Rattle.nx_receiver.specs.Commands.{refuses_vital}
 use Rattle.nx_copies.specs.Events as fed
 use Rattle.nx_copies.specs.Events.{Command, Event, at_moment, command}
 use Rattle.nx_receiver.specs.Moments.{Refuses}
-use Rattle.nx_copies.specs.copies.FoundCopies.{TaggedCopy, copy_of}
+use Rattle.nx_copies.specs.copies.FoundCopies.{TaggedCopy}
 use Rattle.nx_receiver.specs.air_file_runs.Listen.{given_by, given_of}
-use Rattle.nx_receiver.specs.Receiver.{entry_list}
-use Rattle.nx_copies.specs.declared.entry.Entry.{Entry}
-use Rattle.nx_receiver.specs.declared.listener.LastEntries.{LastEntries}
-use Rattle.nx_fec.specs.declared.air_files.channel.Channel.TheVariants.{Zero as OnZero, One, Two}
 use Rattle.nx_receiver.specs.ChannelReceiver.{IsReceiver, ReceiverKind}
-use Rattle.nx_receiver.specs.Listener.{HearsBy, IsSpelled, ListeningOver, last_copies, moment_in_force, starts_by, then_command, then_elements, then_moment}
+use Rattle.nx_receiver.specs.Listener.{HearsBy, IsSpelled, ListeningOver, moment_in_force, starts_by, then_command, then_elements, then_moment}
 use Rattle.nx_copies.specs.copies.Log.{IsEntry, IsLog, IsUpTo}
 use Rattle.nx_copies.specs.copies.Shares.{Given, MarkedCopy, Starts, events_for, marked, share, to_one}
 use Rattle.nx_receiver.specs.declared.fault.MomentFault.{MomentFault}
@@ -41,7 +37,7 @@ use Rattle.nx_watch.specs.Acting.{in_force, moment_said, moments_said}
 use Rattle.nx_watch.specs.private.LineRun.{MayAct, force_behind}
 use Rattle.nx_watch.specs.Watch.{PrintsLoggable}
 use Rattle.nx_watch.specs.private.Keeping.{HasKept, KeepsWith}
-use Rattle.nx_watch.specs.private.LoggingListener.{IsCopyInRange, IsLineInRange, KeepsHeard, KeepsLines, LoggingOver, LoggingTo, TakesLines, logging_to}
+use Rattle.nx_watch.specs.private.LoggingListener.{IsLineInRange, KeepsHeard, KeepsLines, LoggingOver, LoggingTo, TakesLines, logging_to}
 
 -- the same, with another listener inside
 abbrev pub with_listener : {D C : Type 0} → LoggingOver D C → ListeningOver C
@@ -400,25 +396,6 @@ module _ {D C W : Type 0} (kind : ReceiverKind C) (disk : TellsOfDisk D)
       }
 
 -- ---- the end
-
-pub one-in-range : (channel : Channel) (o : Option Entry)
-    → IfSome o (λ entry. entry.moment ≤ last_moment)
-    → All IsCopyInRange (map (marked channel) (entry_list o))
-one-in-range channel None h = All-nil IsCopyInRange
-one-in-range channel (Some entry) h =
-    All-cons IsCopyInRange (marked channel (copy_of entry)) [] h (All-nil IsCopyInRange)
-
-pub last-in-range : (last : LastEntries) → IfSome last.on_0 (λ entry. entry.moment ≤ last_moment)
-    → IfSome last.on_1 (λ entry. entry.moment ≤ last_moment)
-    → IfSome last.on_2 (λ entry. entry.moment ≤ last_moment)
-    → All IsCopyInRange (last_copies last)
-last-in-range last h k l =
-    let on_0 = map (marked OnZero) (entry_list last.on_0) in
-    let on_1 = map (marked One) (entry_list last.on_1) in
-    let on_2 = map (marked Two) (entry_list last.on_2) in
-    All-append IsCopyInRange (on_0 ++ on_1) on_2
-    (All-append IsCopyInRange on_0 on_1 (one-in-range OnZero last.on_0 h)
-    (one-in-range One last.on_1 k)) (one-in-range Two last.on_2 l)
 
 pub back-logged : (front back : List MarkedCopy) → All IsLogged (front ++ back) → All IsLogged back
 back-logged [] back h = h

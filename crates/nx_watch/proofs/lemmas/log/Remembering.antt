@@ -1,9 +1,8 @@
 -- What is remembered of a log while it is read.
-use Rattle.std.proofs.Common.{◌≡◌, ℕ, ◌<◌, ◌≤◌, Bool, true, false, cond, List, [], ◌∷◌, ◌++◌, drop}
+use Rattle.std.proofs.Common.{◌≡◌, ℕ, ◌<◌, Bool, true, false, cond, List, [], ◌∷◌, ◌++◌, drop}
 use Rattle.std.proofs.Common.{map, Option, Some, None, refl, sym, ◌∙◌, ap, ap₂, subst, arith, append_assoc, append-nil}
 use Rattle.std.proofs.Common.{not, take, take-append-drop, ◌==◌}
 use Rattle.std.specs.Prelude.{filter}
-use Rattle.std.specs.FinSet as set
 use Rattle.std.specs.List.{AllZip}
 use Rattle.std.proofs.lemmas.Bool.{and_parts}
 use Rattle.std.proofs.lemmas.Bool.Decides.{nat_tests}
@@ -11,15 +10,12 @@ use Rattle.nx_code.specs.Lists.{last_of}
 use Rattle.nx_fec.specs.air_files.Channels.{same_channel}
 use Rattle.nx_fec.specs.declared.air_files.channel.Channel.{Channel}
 use Rattle.nx_kept.specs.Taker.{Took}
-use Rattle.nx_envelope.specs.Moment.{last_moment}
 use Rattle.nx_log.specs.Logged.{IsLoggedAs, is_memorable, memory_entries, remembered_on}
 use Rattle.nx_log.specs.View.{IsViewOf, copy_said}
 use Rattle.nx_log.specs.declared.entries.entry.EntryView.{EntryView}
 use Rattle.nx_log.proofs.lemmas.reading.Entries.{one_entry}
 use Rattle.nx_memory.specs.Memory.{most_entries}
-use Rattle.nx_memory.specs.Saved.{SavedState}
 use Rattle.nx_memory.specs.declared.memories.entry.MemoryEntry.{MemoryEntry}
-use Rattle.nx_copies.specs.Events.{none_refused}
 use Rattle.nx_copies.specs.copies.FoundCopies.{TaggedCopy}
 use Rattle.nx_copies.specs.copies.Printing.{entry_of, is_good, is_number_00}
 use Rattle.nx_copies.specs.copies.Shares.{MarkedCopy, copies_on}
@@ -135,14 +131,6 @@ pub took-all : (old new : LogMemory) (entries : List MarkedCopy) (texts : List (
 took-all old new entries texts none each took channel =
     took-remembers old new entries texts each took channel [] (none channel)
 
-pub same-saved : (saved : SavedState) (entries : List MemoryEntry) → saved.entries ≡ entries
-    → saved.refused.stations ≡ set.empty → saved.refused.subjects ≡ set.empty
-    → saved ≡ record { refused = none_refused; entries = entries }
-same-saved saved entries e stations subjects i = record {
-  refused = record { stations = stations i; subjects = subjects i };
-  entries = e i;
-}
-
 -- ---- the entry that is found in bytes
 
 -- what is seen of bytes that are a logged entry is that entry
@@ -202,19 +190,3 @@ kept-numbered copy entry is = by (is_memorable copy) refl is
         not-zero : (n : ℕ) → not (n == 0) ≡ true → 0 < n
         not-zero n h = grind (arith, nat_tests)
     by false e is = cc
-
-pub kept-in-range : (bytes : List ℕ) (view : EntryView) (entry : MemoryEntry) → IsViewOf bytes view
-    → Some entry ≡ cond (is_memorable (copy_said view.head view.text.now).copy)
-    (Some (entry_of (copy_said view.head view.text.now).copy)) None
-    → entry.moment ≤ last_moment
-kept-in-range bytes view entry seen is = by (is_memorable said.copy) is
-  where
-    said : MarkedCopy
-    said = copy_said view.head view.text.now
-
-    by : (k : Bool) → Some entry ≡ cond k (Some (entry_of said.copy)) None
-        → entry.moment ≤ last_moment
-    by true is =
-        let same : entry ≡ entry_of said.copy = cc in
-        subst (λ (x : MemoryEntry). x.moment ≤ last_moment) (sym same) seen.entry.logged.in_range
-    by false is = cc

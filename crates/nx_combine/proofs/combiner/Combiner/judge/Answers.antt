@@ -1,6 +1,7 @@
 use Rattle.std.proofs.Common.{◌≡◌, ◌-◌, ◌<◌, ◌&&◌, if◌then◌else◌, true, List, [], ◌∷◌, ◌++◌}
 use Rattle.std.proofs.Common.{length, sym, ap, ap₂, ◌∙◌, subst}
 use Rattle.std.specs.Prelude.{is_some}
+use Rattle.std.proofs.lemmas.Bool.{and_parts}
 use Rattle.nx_envelope.specs.Copies.{errors_of}
 use Rattle.nx_envelope.specs.FinderView.{FinderView}
 use Rattle.nx_memory.specs.declared.memories.entry.MemoryEntry.{MemoryEntry}
@@ -13,7 +14,7 @@ use Rattle.nx_combine.specs.Families.{CombinedCopy, combined_copy_holding}
 use Rattle.nx_combine.specs.Families.{families_after_holding}
 use Rattle.nx_combine.specs.Judging.{StandsHolding, all_copies, combiner_of}
 use Rattle.nx_combine.specs.Judging.{text_printed}
-use Rattle.nx_combine.proofs.lemmas.Judged.{and_second, comes_as, made_printed, made_unprinted}
+use Rattle.nx_combine.proofs.lemmas.Judged.{comes_as, made_printed, made_unprinted}
 use Rattle.nx_combine.proofs.lemmas.Judged.{numbered_some, printed, some_as, unprinted}
 use Rattle.nx_combine.proofs.combiner.Combiner.judge.Goals as goal
 
@@ -113,11 +114,10 @@ renew-requires-clause-numbered g c =
     let errors = c.printed_as-one.ensures.errors read c.args.text.now c.requires.errors
     c.take-combined.ensures.errors in
     let of : is_some c.take-combined.result.family ≡ true =
-    and_second
-    (is_good (headed_copy shown.head c.text_of.result.now c.args.selected))
+    (and_parts (is_good (headed_copy shown.head c.text_of.result.now c.args.selected))
     (is_some c.take-combined.result.family)
     (sym (c.is_entered.ensures c.args.selected (errors ∙ ap errors_of (sym same)))
-    ∙ c.if-is_entered.true) in
+    ∙ c.if-is_entered.true)).1 in
     numbered_some c.take-combined.result.family (0 < c.args.head.now.identity.number) of
     c.take-combined.ensures.numbered
 

@@ -1,5 +1,5 @@
 use Rattle.std.proofs.Common.{arith}
-use Rattle.nx_watch.proofs.lemmas.lines.Telling.{told-out}
+use Rattle.nx_log.proofs.lemmas.runs.Telling.{told-out}
 use Rattle.nx_watch.proofs.lines.telling.write_more.Goals as goal
 
 pub returns-clause-written : goal.returns-clause-written

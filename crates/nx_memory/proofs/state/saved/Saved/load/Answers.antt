@@ -1,6 +1,6 @@
 use Rattle.std.proofs.Common.{sym, ◌∙◌, subst, arith, take_all}
 use Rattle.nx_memory.specs.Content.{IsContent}
-use Rattle.nx_memory.proofs.lemmas.Loading.{newest-held, unknown-held, held-more}
+use Rattle.nx_memory.proofs.lemmas.Loading.{newest-held, unknown-held}
 use Rattle.nx_memory.proofs.state.saved.Saved.load.Goals as goal
 
 pub enter-requires-clause-not_before : goal.enter-requires-clause-not_before
