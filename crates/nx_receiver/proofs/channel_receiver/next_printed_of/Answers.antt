@@ -1,7 +1,7 @@
 use Rattle.std.proofs.Common.{drop}
 use Rattle.nx_receiver.specs.Receiver.{headed_list}
 use Rattle.nx_receiver.proofs.lemmas.receiver.Feeds.{fed_before, fed_finished, fed_no_copy, fed_over}
-use Rattle.nx_receiver.proofs.lemmas.receiver.Feeds.{fed_none, fed_packed, fed_quiet}
+use Rattle.nx_receiver.proofs.lemmas.receiver.Feeds.{fed_packed, fed_quiet}
 use Rattle.nx_receiver.proofs.lemmas.receiver.Given.{no_head}
 use Rattle.nx_receiver.proofs.channel_receiver.next_printed_of.Goals as goal
 

@@ -1,6 +1,6 @@
 use Rattle.nx_fec.specs.air_files.AirFile.{moment}
 use Rattle.nx_receiver.specs.Commands.{refuses_vital, said}
-use Rattle.nx_receiver.proofs.lemmas.listening.Lines.{command-taken, kind-gives, of-kind, taken-as}
+use Rattle.nx_receiver.proofs.lemmas.listening.Lines.{command-taken, kind-gives, of-kind}
 use Rattle.nx_receiver.proofs.lemmas.listening.Lines.{spared}
 use Rattle.nx_receiver.proofs.air_file_runs.listening.take_setting.Goals as goal
 

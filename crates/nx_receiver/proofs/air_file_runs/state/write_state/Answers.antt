@@ -7,7 +7,7 @@ use Rattle.nx_fec.specs.Transfers.{WroteSome}
 use Rattle.nx_memory.specs.StateText.{text_2}
 use Rattle.nx_receiver.specs.air_file_runs.State.{ended_lines, state_bytes}
 use Rattle.nx_receiver.proofs.lemmas.state.Bounds.{few_lines_2}
-use Rattle.nx_receiver.proofs.lemmas.state.Writing.{given-next, given-none, sent-all, sent-some}
+use Rattle.nx_receiver.proofs.lemmas.state.Writing.{given-next, sent-all, sent-some}
 use Rattle.nx_receiver.proofs.lemmas.state.Writing.{state_bytes-is, take-all, wrote-front}
 use Rattle.nx_receiver.proofs.air_file_runs.state.write_state.Goals as goal
 

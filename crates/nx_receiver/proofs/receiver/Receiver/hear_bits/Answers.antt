@@ -2,7 +2,7 @@ use Rattle.nx_receiver.specs.Receiver.{plain_kind}
 use Rattle.nx_receiver.specs.private.Awaiting.{Awaits}
 use Rattle.nx_receiver.specs.private.PlainReceiver.{none-awaited}
 use Rattle.nx_receiver.proofs.lemmas.receiver.Feeds.{awaits_nothing, fed_awaits, fed_before, fed_bits}
-use Rattle.nx_receiver.proofs.lemmas.receiver.Feeds.{fed_none, fed_quiet, is_none}
+use Rattle.nx_receiver.proofs.lemmas.receiver.Feeds.{fed_quiet, is_none}
 use Rattle.nx_receiver.proofs.receiver.Receiver.hear_bits.Goals as goal
 
 pub returns-then-is_some-clause-stands : goal.returns-then-is_some-clause-stands
