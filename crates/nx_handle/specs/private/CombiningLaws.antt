@@ -1,14 +1,18 @@
 -- A place that combines meets the laws of a kind.
-use Rattle.std.specs.Prelude.{◌≡◌, ℕ, true, false, List, [], ◌∷◌, ◌++◌, length}
-use Rattle.std.proofs.Common.{refl, sym, ap}
-use Rattle.nx_copies.specs.Events.{Event, Start, at_moment, first_setting, setting_after_all}
+use Rattle.std.specs.Prelude.{◌≡◌, ℕ, Bool, true, false, List, [], ◌∷◌, ◌++◌, length}
+use Rattle.std.proofs.Common.{arith, refl, sym, ap, ◌∙◌}
+use Rattle.nx_sync.specs.Locks.{Lock, Now, IsNow, hunting, locked}
+use Rattle.nx_copies.specs.Events.{Event, Start, at_moment, elements_among, first_setting}
+use Rattle.nx_copies.specs.Events.{setting_after_all}
 use Rattle.nx_copies.specs.copies.FoundCopies.{TaggedCopy}
 use Rattle.nx_receiver.specs.ChannelReceiver.{IsReceiver}
-use Rattle.nx_combine.specs.CombinedPrinting.{combined_holding}
+use Rattle.nx_combine.specs.CombinedPrinting.{HasPrintedHolding, PrintsHoldingToEnd}
+use Rattle.nx_combine.specs.CombinedPrinting.{combined_holding, printed_of_placed_holding}
 use Rattle.nx_combine.specs.CombinedReceiver.{receiver_in}
+use Rattle.nx_combine.specs.CopyPositions.{ended_placed, placed_to_end}
 use Rattle.nx_combine.specs.FamilyPlaces.{LentFamily, held_in}
 use Rattle.nx_combine.specs.private.CombiningLaws.{combining-receiver}
-use Rattle.nx_combine.proofs.lemmas.Silent.{silent-end, starting_with, with_moment}
+use Rattle.nx_combine.proofs.lemmas.Silent.{starting_with, with_moment}
 use Rattle.nx_combine.proofs.lemmas.Silent as silent
 use Rattle.nx_handle.specs.CombiningPlaces.{StandsLent}
 use Rattle.nx_handle.specs.CombiningPlaces.{combining_place, combining_start, state_closed}
@@ -17,6 +21,26 @@ use Rattle.nx_handle.specs.PlaceKinds.{IsPlaceKind, receiver_of}
 use Rattle.nx_handle.specs.PlainPlaces.{content}
 use Rattle.nx_handle.specs.declared.combining_place.CombiningState.{CombiningState}
 use Rattle.nx_handle.specs.declared.combining_place.CombiningState.TheVariants.{Closed, Hears, Ended}
+
+same-copies : (bits : List Bool) (locks : List Lock) (now : Now) → bits ≡ [] → IsNow bits locks now
+    → ended_placed bits locks now ≡ placed_to_end bits locks now
+unfolding ended_placed placed_to_end
+same-copies bits locks (hunting p) none is = refl
+same-copies bits locks (locked p t) none is =
+    absurd (omega (arith, is.found.after, is.found.here.heard, ap length none))
+
+-- the end prints nothing more where no element was given
+silent-end : (held : ℕ) (start : Start) (events : List Event) (log : List TaggedCopy)
+    → elements_among events ≡ [] → HasPrintedHolding held start events log
+    → PrintsHoldingToEnd held start events log
+silent-end held start events log none h = record {
+  locks = h.locks;
+  now = h.now;
+  stands = h.stands;
+  printed = h.printed
+      ∙ ap (printed_of_placed_holding held start events)
+      (same-copies (elements_among events) h.locks h.now none h.stands);
+}
 
 prints : (held : ℕ) (start : Start) (lent : List LentFamily) (state : CombiningState)
     (events : List Event) (log : List TaggedCopy) → StandsLent held start lent state events log
